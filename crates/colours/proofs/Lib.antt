@@ -1,0 +1,5 @@
+-- The laws of `colours`.
+pub mod Bits
+pub mod Ranges
+pub mod Drop
+pub mod Exact

@@ -1,0 +1,18 @@
+-- A number that equals some member of a list has whatever each member has.
+use Prim.Native.Nat.{ℕ}
+use mathlib.Core.Bool.{true, false, false≢true}
+use mathlib.Core.List.{List, [], _∷_}
+use mathlib.Core.Path.{_≡_}
+use lib.Dec.{eqb}
+use borrow.Author.Tests.{eqb-true}
+use Rattle.lists.specs.Range.{any}
+use Rattle.lists.proofs.Split.{cases}
+
+abbrev pub Each : (ℕ → Type 0) → List ℕ → Type 0
+Each P [] = Unit {0}
+Each P (x ∷ xs) = P x × Each P xs
+
+pub member-has : (P : ℕ → Type 0) (n : ℕ) (xs : List ℕ) → Each P xs → any (eqb n) xs ≡ true → P n
+member-has P n [] h e = absurd (false≢true e)
+member-has P n (x ∷ xs) h e =
+    cases (eqb n x) (λ q. rw (eqb-true n x q) (h .0)) (λ q. member-has P n xs (h .1) (rw q at e))

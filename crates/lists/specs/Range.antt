@@ -1,0 +1,25 @@
+-- The numbers of a range that pass a test, ascending: "the lowest", "the next" and "ascending" of document 01 are the head, the tail
+-- and the order of such a list. It states no part of document 01 by itself.
+use Prim.Native.Nat.{ℕ, zero, suc}
+use mathlib.Core.Bool.{Bool, true, false, _||_}
+use mathlib.Core.List.{List, [], _∷_}
+use Rattle.lists.specs.Choice.{if_then_else_}
+
+-- n numbers from i on: i, i + 1, ..
+unfoldable pub from : ℕ → ℕ → List ℕ
+from i zero = []
+from i (suc n) = i ∷ from (suc i) n
+
+-- 0 .. n − 1
+abbrev pub upto : ℕ → List ℕ
+upto n = from 0 n
+
+-- the members of a list that pass a test, in their order
+unfoldable pub keep : (ℕ → Bool) → List ℕ → List ℕ
+keep p [] = []
+keep p (x ∷ xs) = let rest = keep p xs in if p x then x ∷ rest else rest
+
+-- whether some member of a list passes a test
+abbrev pub any : (ℕ → Bool) → List ℕ → Bool
+any p [] = false
+any p (x ∷ xs) = p x || any p xs

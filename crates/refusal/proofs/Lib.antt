@@ -1,0 +1,2 @@
+-- The laws of `refusal`, for the crates above it.
+pub mod Replies

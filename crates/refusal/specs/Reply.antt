@@ -1,0 +1,31 @@
+-- Replies and refusals: document 01, "Refusals in the order tested". A call has a list of tests in that order. The first test that
+-- fails refuses with its number and row; where none fails the answer stands.
+use Prim.Native.Nat.{ℕ}
+use mathlib.Core.Bool.{Bool, true, false, not, _&&_}
+use mathlib.Core.List.{List, [], _∷_}
+use Rattle.lists.specs.Choice.{if_then_else_}
+
+-- what a call gives back: its answer, or the number and row of a refusal
+pub data Reply (A : Type 0) : Type 0 where
+  Answers : A → Reply A
+  Refuses : ℕ → ℕ → Reply A
+
+-- a refusal's number, the row that it names, and whether the input is at fault
+pub record Test : Type 0 where
+  pub number : ℕ
+  pub row : ℕ
+  pub fails : Bool
+
+-- a test whose row is 0
+abbrev pub test : ℕ → Bool → Test
+test n f = record { number = n; row = 0; fails = f }
+
+-- the answer stands unless a test fails, and then the first that does refuses
+unfoldable pub unless : {A : Type 0} → List Test → A → Reply A
+unless [] a = Answers a
+unless (t ∷ ts) a = let rest = unless ts a in if t .fails then Refuses (t .number) (t .row) else rest
+
+-- no test fails
+unfoldable pub passes : List Test → Bool
+passes [] = true
+passes (t ∷ ts) = not (t .fails) && passes ts
