@@ -1,5 +1,5 @@
-// Answers the separate tool's vectors of `refusal` and `colours`. The input is a count of cases and
-// then five little-endian 32-bit words a case: the operation and its numbers. A line is written
+// Answers the separate tool's vectors of `refusal` and `colours`. A case is five little-endian 32-bit
+// words, the operation and its numbers; the first five hold the count of cases. A line is written
 // for each case.
 ghost use mathlib.Core.Path.{_≡_};
 ghost use Prim.Native.Nat.{_<_, _≤_};
@@ -87,14 +87,18 @@ fn answer(case: &[u8; 20]) {
     }
 }
 
+fn next_case() -> [u8; 20] {
+    let mut case = [0u8; 20];
+    io::read_full(0, &mut case);
+    case
+}
+
 fn main() {
-    let mut first = [0u8; 20];
-    io::read_full(0, &mut first[..4]);
+    let first = next_case();
     let cases = word(&first, 0);
     let mut done = 0;
     while done < cases {
-        let mut case = [0u8; 20];
-        io::read_full(0, &mut case);
+        let case = next_case();
         answer(&case);
         done += 1;
     }

@@ -1,6 +1,6 @@
 //! Vectors of the crates `refusal` and `colours`. A case is five little-endian 32-bit words: the
-//! operation, then its numbers (64-bit ones low word first) and zeros. The first word of all is the
-//! count of cases. The program writes one line for each case.
+//! operation, then its numbers (64-bit ones low word first) and zeros. Before the cases stand five
+//! words with their count. The program writes one line for each case.
 
 use super::Set;
 use crate::cache::{bleach, cache_colours, colours, drop_bits, is_count, layout};
@@ -27,9 +27,10 @@ pub fn set() -> Set {
     bleaches(&mut set, &mut random);
     drops(&mut set, &mut random);
     row_names(&mut set);
-    let mut stdin = set.cases.to_le_bytes().to_vec();
-    stdin.append(&mut set.stdin);
-    set.stdin = stdin;
+    let cases = std::mem::take(&mut set.stdin);
+    let count = set.cases;
+    words(&mut set, [count, 0, 0, 0, 0]);
+    set.stdin.extend(cases);
     set
 }
 
