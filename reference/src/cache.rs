@@ -114,7 +114,10 @@ mod tests {
                 for start in (0..n).step_by(1 << kept) {
                     let set = ((1u32 << (1 << kept)) - 1) << start;
                     for page in (0..4 * n).filter(|page| set >> (page % n) & 1 == 1) {
-                        assert_eq!(bleach(n, set, page), Reply::Answer(drop_bits(bits, kept, page)));
+                        assert_eq!(
+                            bleach(n, set, page),
+                            Reply::Answer(drop_bits(bits, kept, page))
+                        );
                     }
                 }
             }

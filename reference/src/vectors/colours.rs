@@ -16,12 +16,13 @@ const ROW_NAMES: u32 = 5;
 const COUNTS: [u32; 5] = [1, 2, 4, 8, 16];
 const OTHER_COUNTS: [u32; 12] = [0, 3, 5, 7, 9, 15, 17, 31, 32, 33, 1 << 16, u32::MAX];
 
-pub fn set() -> Set {
+pub fn set(seed: u64) -> Set {
     let mut set = Set::new("vectors_colours");
     set.want("cache", &[2]);
     set.want("layout", &[2, 9, 10]);
     set.want("bleach", &[2, 9, 10, 11]);
-    let mut random = Random::new(2003);
+    let mut random = Random::new(seed);
+    examples(&mut set);
     caches(&mut set, &mut random);
     layouts(&mut set, &mut random);
     bleaches(&mut set, &mut random);
@@ -35,7 +36,8 @@ pub fn set() -> Set {
 }
 
 fn words(set: &mut Set, words: [u32; 5]) {
-    set.stdin.extend(words.iter().flat_map(|word| word.to_le_bytes()));
+    set.stdin
+        .extend(words.iter().flat_map(|word| word.to_le_bytes()));
 }
 
 fn add_cache(set: &mut Set, bytes: u64, ways: u64) {
@@ -50,9 +52,51 @@ fn add_layout(set: &mut Set, n: u32, colour_set: u32, index: u32) {
     set.reply("layout", layout(n, colour_set, index));
 }
 
+fn add_drop(set: &mut Set, bits: u32, kept: u32, page: u32) {
+    words(set, [DROP, bits, kept, page, 0]);
+    set.reply("drop", Reply::Answer(drop_bits(bits, kept, page)));
+}
+
 fn add_bleach(set: &mut Set, n: u32, colour_set: u32, page: u32) {
     words(set, [BLEACH, n, colour_set, page, 0]);
     set.reply("bleach", bleach(n, colour_set, page));
+}
+
+/// The worked examples of documents 01 and 004, with the replies that are printed there.
+fn examples(set: &mut Set) {
+    for (bytes, ways, reply) in [
+        (1_048_576, 16, Reply::Answer(16)),
+        (2_097_152, 16, Reply::refused(2)),
+    ] {
+        assert_eq!(cache_colours(bytes, ways), reply);
+        add_cache(set, bytes, ways);
+    }
+    for (colour_set, index, page) in [
+        (0x00F0, 6, 22),
+        (0x0005, 3, 18),
+        (0x000C, 0, 0x02),
+        (0x000C, 1, 0x03),
+        (0x000C, 2, 0x12),
+        (0x000C, 3, 0x13),
+        (0x000C, 4, 0x22),
+        (0x0F00, 0, 0x08),
+        (0x0F00, 4, 0x18),
+        (0x0F00, 11, 0x2B),
+        (0x8000, 0x5_FFFF, 0x5F_FFFF),
+    ] {
+        assert_eq!(layout(16, colour_set, index), Reply::Answer(page));
+        add_layout(set, 16, colour_set, index);
+        assert_eq!(bleach(16, colour_set, page), Reply::Answer(index));
+        add_bleach(set, 16, colour_set, page);
+    }
+    assert_eq!(bleach(16, 0x0005, 17), Reply::refused(11));
+    add_bleach(set, 16, 0x0005, 17);
+    assert_eq!(bleach(16, 0x0F00, 0x29), Reply::Answer(0x09));
+    add_bleach(set, 16, 0x0F00, 0x29);
+    for (bits, kept, page, dropped) in [(4, 2, 0x29, 0x09), (4, 0, 0x5F_FFFF, 0x5_FFFF)] {
+        assert_eq!(drop_bits(bits, kept, page), dropped);
+        add_drop(set, bits, kept, page);
+    }
 }
 
 /// Sizes that divide exactly, for every N and the counts beside them, and sizes a little off; ways whose
@@ -61,7 +105,15 @@ fn caches(set: &mut Set, random: &mut Random) {
     let wraps_32 = 1 << 20;
     let wraps_64 = 1 << 52;
     let mut all_ways = vec![0, 1, 2, 3, 4, 7, 8, 11, 12, 16, 20, 24];
-    for edge in [wraps_32, 1 << 32, 1 << 40, 1 << 48, wraps_64, 1 << 60, 1 << 63] {
+    for edge in [
+        wraps_32,
+        1 << 32,
+        1 << 40,
+        1 << 48,
+        wraps_64,
+        1 << 60,
+        1 << 63,
+    ] {
         all_ways.extend([edge - 1, edge, edge + 1]);
     }
     all_ways.push(u64::MAX);
@@ -88,10 +140,30 @@ fn caches(set: &mut Set, random: &mut Random) {
 
 /// The edge sets of N colours, and some between: empty, each end, all, one bit too high, gaps.
 fn sets(n: u32, random: &mut Random) -> Vec<u32> {
-    let full = if is_count(n.into()) { (1u32 << n) - 1 } else { 0xFFFF };
+    let full = if is_count(n.into()) {
+        (1u32 << n) - 1
+    } else {
+        0xFFFF
+    };
     let top = full ^ full >> 1;
-    let mut sets = vec![0, 1, top, full, 0x5555 & full, 0xAAAA & full, full >> 1, full & !1];
-    sets.extend([full + 1, full + 1 + top, 1 << 16, 0x8000_0000, 0x8000_0001, u32::MAX]);
+    let mut sets = vec![
+        0,
+        1,
+        top,
+        full,
+        0x5555 & full,
+        0xAAAA & full,
+        full >> 1,
+        full & !1,
+    ];
+    sets.extend([
+        full + 1,
+        full + 1 + top,
+        1 << 16,
+        0x8000_0000,
+        0x8000_0001,
+        u32::MAX,
+    ]);
     for _ in 0..6 {
         sets.push(random.word() & full);
     }
@@ -103,7 +175,17 @@ fn layouts(set: &mut Set, random: &mut Random) {
         for colour_set in sets(n, random) {
             let size = colours(colour_set).len() as u32;
             let last = (1 << 24) - 1;
-            for index in [0, 1, size.saturating_sub(1), size, size + 1, 2 * size, last - size, last - 1, last] {
+            for index in [
+                0,
+                1,
+                size.saturating_sub(1),
+                size,
+                size + 1,
+                2 * size,
+                last - size,
+                last - 1,
+                last,
+            ] {
                 add_layout(set, n, colour_set, index);
             }
             for index in [last + 1, last + 2, 1 << 28, u32::MAX] {
@@ -134,7 +216,12 @@ fn bleaches(set: &mut Set, random: &mut Random) {
             }
             add_bleach(set, n, colour_set, random.word());
             for colour in colours(colour_set) {
-                add_bleach(set, n, colour_set, random.word() >> 4 & !(n - 1) | colour & (n - 1));
+                add_bleach(
+                    set,
+                    n,
+                    colour_set,
+                    random.word() >> 4 & !(n - 1) | colour & (n - 1),
+                );
             }
             // what layout gives bleaches back
             for index in [0, 5, (1 << 24) - 1, random.word() >> 8] {
@@ -156,9 +243,15 @@ fn drops(set: &mut Set, random: &mut Random) {
     let sizes = [0, 1, 2, 3, 4, 5, 16, 27, 28, 31, 32, 33, u32::MAX];
     for bits in sizes {
         for kept in sizes {
-            for page in [0, 0x29, 0x5F_FFFF, u32::MAX, random.word(), random.word() >> 4] {
-                words(set, [DROP, bits, kept, page, 0]);
-                set.reply("drop", Reply::Answer(drop_bits(bits, kept, page)));
+            for page in [
+                0,
+                0x29,
+                0x5F_FFFF,
+                u32::MAX,
+                random.word(),
+                random.word() >> 4,
+            ] {
+                add_drop(set, bits, kept, page);
             }
         }
     }

@@ -19,8 +19,8 @@ pub struct Set {
     wanted: Vec<(&'static str, u32)>,
 }
 
-pub fn all() -> Vec<Set> {
-    vec![colours::set()]
+pub fn all(seed: u64) -> Vec<Set> {
+    vec![colours::set(seed)]
 }
 
 impl Set {
@@ -37,7 +37,8 @@ impl Set {
 
     fn want(&mut self, operation: &'static str, numbers: &[u32]) {
         self.wanted.push((operation, 0));
-        self.wanted.extend(numbers.iter().map(|number| (operation, *number)));
+        self.wanted
+            .extend(numbers.iter().map(|number| (operation, *number)));
     }
 
     fn line(&mut self, text: &str) {
@@ -65,7 +66,11 @@ impl Set {
             };
             println!("  {operation}: {what} {count} times");
         }
-        let missing: Vec<_> = self.wanted.iter().filter(|key| !self.seen.contains_key(key)).collect();
+        let missing: Vec<_> = self
+            .wanted
+            .iter()
+            .filter(|key| !self.seen.contains_key(key))
+            .collect();
         for (operation, number) in &missing {
             println!("  {operation}: refusal {number} never occurs");
         }
@@ -74,7 +79,10 @@ impl Set {
 
     fn files(&self, dir: &Path) -> [(PathBuf, &[u8]); 2] {
         let dir = dir.join(self.crate_name);
-        [(dir.join("stdin"), &self.stdin), (dir.join("stdout"), &self.stdout)]
+        [
+            (dir.join("stdin"), &self.stdin),
+            (dir.join("stdout"), &self.stdout),
+        ]
     }
 
     pub fn write(&self, dir: &Path) -> bool {

@@ -1,0 +1,2 @@
+-- The claim over the table.
+pub mod Claim

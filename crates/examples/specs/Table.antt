@@ -1,0 +1,31 @@
+-- The examples of document 01 that are marked m, in its order, and then the worked examples of document 004. Later parts add theirs.
+use mathlib.Core.List.{List, [], _∷_}
+use Rattle.refusal.specs.Reply.{Answers, Refuses}
+use Rattle.examples.specs.Example.{Example, Cache, Layout, Bleach, Drop, Equation}
+
+unfoldable pub examples : List Example
+examples =
+    Cache 1048576 16 (Answers 16)
+    ∷ Cache 2097152 16 (Refuses 2 0)
+    ∷ Layout 16 0x00F0 6 (Answers 22)
+    ∷ Bleach 16 0x00F0 22 (Answers 6)
+    ∷ Layout 16 0x0005 3 (Answers 18)
+    ∷ Bleach 16 0x0005 17 (Refuses 11 0)
+    ∷ Bleach 16 0x8000 0x5FFFFF (Answers 0x5FFFF)
+    -- 004: the pages of [2, 3], of which 0x22 is the fifth; equation (1) with its factor mended says so
+    ∷ Layout 16 0x000C 0 (Answers 0x02)
+    ∷ Layout 16 0x000C 1 (Answers 0x03)
+    ∷ Layout 16 0x000C 2 (Answers 0x12)
+    ∷ Layout 16 0x000C 3 (Answers 0x13)
+    ∷ Layout 16 0x000C 4 (Answers 0x22)
+    ∷ Bleach 16 0x000C 0x22 (Answers 0x04)
+    ∷ Equation 16 2 3 0 0x22 0x04
+    -- 004: [8, 11] has pages 0x08 to 0x0B, 0x18 to 0x1B and 0x28 to 0x2B, of which 0x29 is the tenth; two bits are dropped
+    ∷ Layout 16 0x0F00 0 (Answers 0x08)
+    ∷ Layout 16 0x0F00 4 (Answers 0x18)
+    ∷ Layout 16 0x0F00 11 (Answers 0x2B)
+    ∷ Bleach 16 0x0F00 0x29 (Answers 0x09)
+    ∷ Drop 4 2 0x29 0x09
+    -- 004: [15, 15] drops all four colour bits, by pages from the base
+    ∷ Drop 4 0 0x5FFFFF 0x5FFFF
+    ∷ []
