@@ -1,19 +1,15 @@
 -- Bits of a set, over any width: the place of a colour is a count of ones, and a shifted one is a power of two.
-use Prim.Native.Nat.{ℕ, zero, suc, _+_, _-_, _*_, _/_, _%_, _^_, _<_, _≤_}
-use native.Mathlib.Nat.{add-zero, one-mul, div-one, mod-one, mod-eq-of-lt, pow-suc, eq-zero-or-pos, lt-irrefl}
+use Prim.Native.Nat.{ℕ, zero, suc, _+_, _*_, _/_, _%_, _^_, _<_}
+use native.Mathlib.Nat.{one-mul, div-one, mod-one, mod-eq-of-lt, eq-zero-or-pos, lt-irrefl}
 use native.Mathlib.Numerals.{add-one}
 use native.Mathlib.Omega.{arith}
-use mathlib.Core.Bool.{true, false}
-use mathlib.Core.List.{List, [], _∷_}
 use mathlib.Core.Logic.{⊎-elim}
-use mathlib.Core.Path.{_≡_, refl, sym, ap, _∙_}
+use mathlib.Core.Path.{_≡_, _∙_}
 use lib.Arith.{bin-ind}
 use lib.Count.{ones, ones-step, onesIn}
-use lib.Dec.{eqb}
-use lib.ListN.{length}
 use lib.Pow.{field, mod-mod-pow, shr-shr, shl-exact}
 use borrow.Author.Tests.{eqb-true, eqb-false}
-use Rattle.lists.specs.Range.{from, upto, keep}
+use Rattle.lists.specs.Range.{from, keep}
 use Rattle.lists.proofs.Split.{cases}
 use Rattle.lists.proofs.Kept.{count, count-next, count-same}
 use Rattle.colours.specs.Sets.{has, coloursBelow, placeOf}

@@ -1,8 +1,8 @@
 -- A cache set, by 64 lines, is a colour: where the colour bits of an address stand.
-use Prim.Native.Nat.{ℕ, _*_, _/_, _%_, _<_}
+use Prim.Native.Nat.{ℕ, _/_, _%_, _<_}
 use native.Mathlib.Nat.{mul-comm, mod-lt, div-div-eq-div-mul}
 use native.Mathlib.Omega.{arith}
-use mathlib.Core.Path.{_≡_, ap, _∙_}
+use mathlib.Core.Path.{_≡_, _∙_}
 use lib.Arith.{mod-mul, digits-div}
 use Rattle.colours.specs.Cache.{colourOf, pageOf, cacheSet}
 

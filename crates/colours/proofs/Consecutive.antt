@@ -1,13 +1,13 @@
 -- Sets of consecutive colours, from a first one f on, c of them: which colours they have, their size and places, and what bleaching is
 -- on them.
-use Prim.Native.Nat.{ℕ, zero, suc, _+_, _-_, _*_, _/_, _%_, _^_, _<_, _≤_}
-use native.Mathlib.Nat.{add-zero, zero-div, le-refl, le-of-lt, lt-irrefl, lt-of-lt-of-le, mod-lt, mod-eq-of-lt, div-eq-of-lt, mul-mod-left, mul-assoc, mul-sub, mul-le-mul-left, mul-le-mul-right, div-add-mod', pos-of-ne-zero, min-eq-left}
+use Prim.Native.Nat.{ℕ, suc, _+_, _-_, _*_, _/_, _%_, _^_, _<_, _≤_}
+use native.Mathlib.Nat.{add-zero, zero-div, le-refl, le-of-lt, lt-irrefl, lt-of-lt-of-le, div-eq-of-lt, mul-mod-left, mul-assoc, mul-sub, mul-le-mul-left, div-add-mod', min-eq-left}
 use native.Mathlib.Omega.{arith}
-use mathlib.Core.Bool.{Bool, true, false, not, _&&_}
+use mathlib.Core.Bool.{true, _&&_}
 use mathlib.Core.Path.{_≡_, refl, sym, ap, ap₂, _∙_}
 use lib.Bits.{shifted-even}
 use lib.Count.{ones, onesIn, ones-cat, ones-ones}
-use lib.Dec.{eqb, leb, ltb}
+use lib.Dec.{leb, ltb}
 use lib.Pow.{pow-pos, pow-mono, pow-lt, pow-add, shl-shr, shl-lt, shr-shr, ones-lt, ones-split, high, low, mod-pow-add, mod-mod-pow}
 use borrow.Author.Tests.{le-leb, lt-leb, lt-ltb, le-ltb, leb-true, ltb-true, ne-eqb}
 use Rattle.lists.proofs.Split.{below-or-not, and-both}

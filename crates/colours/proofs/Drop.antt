@@ -1,7 +1,7 @@
 -- Dropping colour bits by masks and shifts on words of any width w: each form that the code uses is `dropBits`, division and remainder.
-use Prim.Native.Nat.{ℕ, _+_, _-_, _*_, _/_, _%_, _^_, _<_, _≤_, min}
+use Prim.Native.Nat.{ℕ, _+_, _-_, _*_, _/_, _%_, _^_, _<_, _≤_}
 use native.Mathlib.Nat.{zero-mul, zero-add, le-of-lt, lt-of-lt-of-le, lt-of-le-of-lt, le-trans, mod-lt, mod-eq-of-lt, div-eq-of-lt, div-mul-le-self, mul-le-mul-left, min-eq-left, min-eq-right}
-use mathlib.Core.Path.{_≡_, refl, sym, ap, _∙_}
+use mathlib.Core.Path.{_≡_, sym, _∙_}
 use lib.Bits.{bitAnd, bitOr, and-mask, or-shifted}
 use lib.Pow.{pow-pos, pow-mono, split}
 use Rattle.lists.proofs.Split.{below-or-not}

@@ -1,9 +1,9 @@
 -- Dividing by 4,096 and then by the ways is dividing by their product: the quotient, and whether it is exact.
-use Prim.Native.Nat.{ℕ, _+_, _*_, _/_, _%_, _<_}
+use Prim.Native.Nat.{ℕ, _*_, _/_, _%_, _<_}
 use native.Mathlib.Nat.{mul-comm, div-div-eq-div-mul, eq-zero-or-pos, mul-pos}
 use native.Mathlib.Omega.{arith}
 use mathlib.Core.Logic.{⊎-elim}
-use mathlib.Core.Path.{_≡_, refl, sym, ap, _∙_}
+use mathlib.Core.Path.{_≡_, _∙_}
 use lib.Arith.{mod-mul}
 
 pub two-divisions : (b w k : ℕ) → b / k / w ≡ b / (w * k)

@@ -1,10 +1,10 @@
 -- What accepted numbers of colours and accepted sets give: the bounds that the code needs, and the colour at a place.
-use Prim.Native.Nat.{ℕ, zero, suc, _+_, _-_, _*_, _/_, _%_, _^_, _<_, _≤_}
-use native.Mathlib.Nat.{add-zero, zero-add, sub-zero, mod-lt, div-le-self, mul-le-mul, mul-le-mul-left, div-add-mod', div-lt-iff-lt-mul, one-mul, pos-of-ne-zero, lt-irrefl}
+use Prim.Native.Nat.{ℕ, _/_, _%_, _^_, _<_, _≤_}
+use native.Mathlib.Nat.{mod-lt, mul-le-mul-left, div-add-mod', div-lt-iff-lt-mul, one-mul, pos-of-ne-zero, lt-irrefl}
 use native.Mathlib.Omega.{arith}
 use mathlib.Core.Bool.{true, false, false≢true}
 use mathlib.Core.List.{[], _∷_}
-use mathlib.Core.Path.{_≡_, refl, sym, ap, _∙_}
+use mathlib.Core.Path.{_≡_}
 use lib.Count.{ones, ones-le}
 use lib.Dec.{eqb}
 use lib.Pow.{pow-pos}
@@ -13,8 +13,8 @@ use Rattle.lists.proofs.Split.{cases}
 use Rattle.lists.proofs.Kept.{count, nth, Placed, nth-placed}
 use Rattle.lists.proofs.Members.{member-has}
 use Rattle.colours.specs.Sets.{isColourSet, has, coloursBelow, colourAt, placeOf}
-use Rattle.colours.specs.Cache.{isColourCount, colourOf}
-use Rattle.colours.specs.Pages.{layoutPage, bleachIndex}
+use Rattle.colours.specs.Cache.{isColourCount}
+use Rattle.colours.specs.Pages.{bleachIndex}
 use Rattle.colours.proofs.Bits.{size-ones, place-ones, ones-pos}
 
 pub count-range : (n : ℕ) → isColourCount n ≡ true → (1 ≤ n) × (n ≤ 16)

@@ -1,13 +1,13 @@
 -- Layout and bleaching undo each other, for any number of colours and any set of them: a page is a row of N colours and a colour, an
 -- index a row of as many places as the set has and a place, and colours and places go to each other.
-use Prim.Native.Nat.{ℕ, _+_, _-_, _*_, _/_, _%_, _^_, _<_, _≤_}
+use Prim.Native.Nat.{ℕ, _*_, _/_, _%_, _^_, _<_}
 use native.Mathlib.Nat.{sub-zero, mod-lt, div-add-mod', div-le-self, lt-of-le-of-lt, lt-of-lt-of-le}
 use native.Mathlib.Omega.{arith}
 use mathlib.Core.Bool.{true}
 use mathlib.Core.Path.{_≡_}
 use lib.Arith.{digits-div, digits-mod, digits-lt}
 use lib.Count.{ones}
-use Rattle.lists.proofs.Kept.{count, nth, Placed, placed-nth}
+use Rattle.lists.proofs.Kept.{count, nth, placed-nth}
 use Rattle.colours.specs.Sets.{has, coloursBelow, colourAt, placeOf}
 use Rattle.colours.specs.Pages.{layoutPage, bleachIndex}
 use Rattle.colours.proofs.Ranges.{ColourSet, counted, colour-placed, colour-lt}

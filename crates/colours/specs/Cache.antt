@@ -1,7 +1,7 @@
 -- The number of colours, the colour of a frame and the cache set of an address: document 01, "Colours of the cache" and refusal 2.
 use Prim.Native.Nat.{ℕ, _*_, _/_, _%_}
 use mathlib.Core.Bool.{Bool, not}
-use mathlib.Core.List.{List, [], _∷_}
+use mathlib.Core.List.{[], _∷_}
 use lib.Dec.{eqb}
 use Rattle.lists.specs.Range.{any}
 use Rattle.refusal.specs.Reply.{Reply, Test, test, unless}

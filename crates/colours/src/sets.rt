@@ -17,7 +17,7 @@ pub fn is_colour_set(colours: u32, set: u32) -> bool
 }
 
 // Whether a colour is in a set.
-pub fn has_colour(set: u32, colour: u32) -> bool
+pub(crate) fn has_colour(set: u32, colour: u32) -> bool
     requires { ⌜ colour < 32 ⌝ }
     ensures { λ r. ⌜ r ≡ has set colour ⌝ }
 {
@@ -25,7 +25,7 @@ pub fn has_colour(set: u32, colour: u32) -> bool
 }
 
 // How many colours of a set are below a colour.
-pub fn place_of(set: u32, colour: u32) -> u32
+pub(crate) fn place_of(set: u32, colour: u32) -> u32
     requires { ⌜ colour < 32 ⌝ }
     ensures { λ r. ⌜ r ≡ placeOf set colour ⌝ }
 {
@@ -34,7 +34,7 @@ pub fn place_of(set: u32, colour: u32) -> u32
 }
 
 // The colour at a place, or 0 where the set has no such place.
-pub fn colour_at(colours: u32, set: u32, place: u32) -> u32
+pub(crate) fn colour_at(colours: u32, set: u32, place: u32) -> u32
     requires { ⌜ colours ≤ 32 ⌝ }
     ensures { λ r. ⌜ r ≡ colourAt colours set place ⌝ }
 {

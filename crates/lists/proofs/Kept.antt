@@ -9,7 +9,6 @@ use mathlib.Core.List.{List, [], _∷_}
 use mathlib.Core.Logic.{_⊎_, inl, inr}
 use mathlib.Core.Path.{_≡_, refl, ap, _∙_}
 use lib.ListN.{length, getD}
-use Rattle.lists.specs.Choice.{if_then_else_}
 use Rattle.lists.specs.Range.{from, upto, keep}
 use Rattle.lists.proofs.Split.{cases}
 

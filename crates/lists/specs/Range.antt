@@ -1,7 +1,7 @@
 -- The numbers of a range that pass a test, ascending: "the lowest", "the next" and "ascending" of document 01 are the head, the tail
 -- and the order of such a list. It states no part of document 01 by itself.
 use Prim.Native.Nat.{ℕ, zero, suc}
-use mathlib.Core.Bool.{Bool, true, false, _||_}
+use mathlib.Core.Bool.{Bool, false, _||_}
 use mathlib.Core.List.{List, [], _∷_}
 use Rattle.lists.specs.Choice.{if_then_else_}
 

@@ -1,10 +1,15 @@
 -- What it means that a call answers: none of its tests fails, and conversely.
-use mathlib.Core.Bool.{Bool, true, false, not, _&&_}
+use mathlib.Core.Bool.{true, false, not}
 use mathlib.Core.List.{List, [], _∷_}
-use mathlib.Core.Path.{_≡_, refl, sym}
-use Rattle.lists.specs.Choice.{if_then_else_}
-use Rattle.lists.proofs.Split.{cases}
-use Rattle.refusal.specs.Reply.{Reply, Answers, Refuses, Test, unless, passes}
+use mathlib.Core.Path.{_≡_, refl}
+use borrow.Author.Tests.{not-true}
+use Rattle.lists.proofs.Split.{cases, and-both}
+use Rattle.refusal.specs.Reply.{Answers, Test, unless, passes}
+
+-- where no test fails, the first does not, and none of the others
+pub passed-first : (t : Test) (ts : List Test) → passes (t ∷ ts) ≡ true → (t .fails ≡ false) × (passes ts ≡ true)
+unfolding passes
+passed-first t ts e = let both = and-both (not (t .fails)) (passes ts) e in (not-true (t .fails) (both .0), both .1)
 
 module _ {A : Type 0} where
   pub passed-answers : (ts : List Test) (a : A) → passes ts ≡ true → unless ts a ≡ Answers a

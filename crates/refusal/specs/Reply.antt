@@ -1,7 +1,7 @@
 -- Replies and refusals: document 01, "Refusals in the order tested". A call has a list of tests in that order. The first test that
 -- fails refuses with its number and row; where none fails the answer stands.
 use Prim.Native.Nat.{ℕ}
-use mathlib.Core.Bool.{Bool, true, false, not, _&&_}
+use mathlib.Core.Bool.{Bool, true, not, _&&_}
 use mathlib.Core.List.{List, [], _∷_}
 use Rattle.lists.specs.Choice.{if_then_else_}
 

@@ -1,7 +1,6 @@
 // Answers the separate tool's vectors of `refusal` and `colours`. A case is five little-endian 32-bit
 // words, the operation and its numbers; the first five hold the count of cases. A line is written
 // for each case.
-ghost use mathlib.Core.Path.{_≡_};
 ghost use Prim.Native.Nat.{_<_, _≤_};
 use colours::Bleached;
 use colours::ColourCount;

@@ -1,5 +1,5 @@
 -- `colours::cache::cache_colours` meets its contract: two divisions one after the other are the definition's one (`Exact`).
-use Prim.Native.Nat.{ℕ, _*_, _/_, _%_, _<_}
+use Prim.Native.Nat.{_*_, _%_}
 use native.Mathlib.Nat.{pos-of-ne-zero}
 use native.Mathlib.Omega.{arith}
 use mathlib.Core.Path.{_≡_, sym, _∙_}
@@ -11,9 +11,6 @@ use Rattle.colours.proofs.Ranges.{count-high}
 use Rattle.colours.proofs.Exact.{two-divisions, exact, inexact-low, inexact-high}
 use Rattle.colours.proofs.cache.cache_colours.Statement.{statement}
 use Rattle.colours.proofs.cache.cache_colours.Tie as tie
-use Rattle.colours.proofs.cache.cache_colours.Reads as reads
-use Rattle.colours.proofs.cache.cache_colours.Lts as lts
-use Rattle.colours.proofs.cache.is_colour_count.Reads as is-colour-count-reads
 
 -- the division by the product is exact where both are
 divides :

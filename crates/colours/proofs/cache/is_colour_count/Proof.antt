@@ -1,10 +1,9 @@
 -- `colours::cache::is_colour_count` meets its contract: 4, 8 and 16 are the keys of one arm, 1 and 2 the range of another.
 use Prim.Native.Nat.{ℕ}
 use native.Mathlib.Omega.{arith}
-use mathlib.Core.Bool.{true}
 use mathlib.Core.Logic.{inl, inr, ⊎-elim}
 use mathlib.Core.Path.{_≡_}
-use borrow.Author.Tests.{eq-eqb, ne-eqb}
+use borrow.Author.Tests.{ne-eqb}
 use Rattle.lists.proofs.Split.{below-or-not}
 use Rattle.colours.specs.Cache.{isColourCount}
 use Rattle.colours.proofs.cache.is_colour_count.Statement.{statement}

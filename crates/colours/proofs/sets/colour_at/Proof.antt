@@ -2,8 +2,7 @@
 -- colours from `colour` on. The measure is how many colours are left.
 use Prim.Native.Nat.{ℕ, suc, _≤_, _-_}
 use native.Mathlib.Omega.{arith}
-use mathlib.Core.Path.{_≡_, refl, sym, ap, _∙_}
-use mathlib.Core.List.{List}
+use mathlib.Core.Path.{_≡_, sym, _∙_}
 use mathlib.Core.Logic.{⊎-elim}
 use native.Mathlib.Nat.{pos-of-ne-zero}
 use lib.ListN.{getD}
@@ -11,9 +10,6 @@ use Rattle.lists.proofs.Kept.{ahead, ahead-start, ahead-take, ahead-skip, ahead
 use Rattle.colours.specs.Sets.{has, colourAt, coloursBelow}
 use Rattle.colours.proofs.sets.colour_at.Statement.{statement}
 use Rattle.colours.proofs.sets.colour_at.Tie as tie
-use Rattle.colours.proofs.sets.colour_at.Reads as reads
-use Rattle.colours.proofs.sets.colour_at.Lts as lts
-use Rattle.colours.proofs.sets.has_colour.Reads as has-colour-reads
 
 abbrev Inv-loop : tie.InvT-loop
 Inv-loop colours set place left₀ colour₀ left colour = (colour ≤ colours) × (colourAt colours set place ≡ getD (ahead (has set) colour colours) left 0)

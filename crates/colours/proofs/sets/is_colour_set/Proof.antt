@@ -1,14 +1,11 @@
 -- `colours::sets::is_colour_set` meets its contract: from 32 colours on no set of 32 bits has a bit too high.
 use borrow.Author.Needs.{needs}
 use native.Mathlib.Nat.{div-eq-of-lt, lt-of-lt-of-le}
-use mathlib.Core.Path.{_≡_, refl}
 use lib.Pow.{pow-mono}
 use borrow.Author.Tests.{eq-eqb, ne-eqb}
 use Rattle.colours.specs.Sets.{isColourSet}
 use Rattle.colours.proofs.sets.is_colour_set.Statement.{statement}
 use Rattle.colours.proofs.sets.is_colour_set.Tie as tie
-use Rattle.colours.proofs.sets.is_colour_set.Reads as reads
-use Rattle.colours.proofs.sets.is_colour_set.Lts as lts
 
 returns : tie.Need-returns
 unfolding isColourSet
