@@ -19,7 +19,7 @@ pub fn is_colour_count(colours: u32) -> bool
     }
 }
 
-// W × 4,096 may exceed 64 bits, so pages and ways are divided one after the other.
+// The number of colours of a cache. W × 4,096 may exceed 64 bits, so pages and ways are divided one after the other.
 pub fn cache_colours(bytes: u64, ways: u64) -> ColourCount
     ensures { λ r. ⌜ paperCount r ≡ cacheReply bytes ways ⌝ }
 {

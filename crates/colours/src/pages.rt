@@ -1,7 +1,6 @@
 // Layout and bleaching: document 01, index to page and page to index under a colour set, with
 // refusals 2 and 9 to 11; and bleaching by dropping colour bits.
 ghost use mathlib.Core.Path.{_≡_};
-ghost use Prim.Native.Nat.{_<_};
 ghost use Rattle.colours.specs.Pages.{layoutReply, bleachReply, dropBits};
 ghost use Rattle.colours.specs.Paper.{paperLaid, paperBleached};
 use crate::cache::is_colour_count;
@@ -10,6 +9,11 @@ use crate::sets::has_colour;
 use crate::sets::is_colour_set;
 use crate::sets::place_of;
 use refusal::Refusal;
+
+// 2^24 − 1 and 2^28 − 1: the last index of one colour of 16 is laid out on the last page.
+const LAST_INDEX: u32 = 0xFF_FFFF;
+
+const LAST_PAGE: u32 = 0xFFF_FFFF;
 
 pub enum Laid {
     Page(u32),
@@ -21,6 +25,7 @@ pub enum Bleached {
     Refused(Refusal),
 }
 
+// The page of an index: rows of N pages, and in each row the pages of the set's colours.
 pub fn layout(colours: u32, set: u32, index: u32) -> Laid
     ensures { λ r. ⌜ paperLaid r ≡ layoutReply colours set index ⌝ }
 {
@@ -30,7 +35,7 @@ pub fn layout(colours: u32, set: u32, index: u32) -> Laid
     if !is_colour_set(colours, set) {
         return Laid::Refused(Refusal { number: 9, row: 0 });
     }
-    if 0xFF_FFFF < index {
+    if LAST_INDEX < index {
         return Laid::Refused(Refusal { number: 10, row: 0 });
     }
     let size = u32::count_ones(set);
@@ -38,6 +43,7 @@ pub fn layout(colours: u32, set: u32, index: u32) -> Laid
     Laid::Page(index / size * colours + colour)
 }
 
+// The index of a page whose colour is in the set: the way back.
 pub fn bleach(colours: u32, set: u32, page: u32) -> Bleached
     ensures { λ r. ⌜ paperBleached r ≡ bleachReply colours set page ⌝ }
 {
@@ -47,7 +53,7 @@ pub fn bleach(colours: u32, set: u32, page: u32) -> Bleached
     if !is_colour_set(colours, set) {
         return Bleached::Refused(Refusal { number: 9, row: 0 });
     }
-    if 0xFFF_FFFF < page {
+    if LAST_PAGE < page {
         return Bleached::Refused(Refusal { number: 10, row: 0 });
     }
     let colour = page % colours;
