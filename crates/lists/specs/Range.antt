@@ -1,7 +1,7 @@
 -- The numbers of a range that pass a test, ascending: "the lowest", "the next" and "ascending" of document 01 are the head, the tail
 -- and the order of such a list. It states no part of document 01 by itself.
 use Prim.Native.Nat.{ℕ, zero, suc}
-use mathlib.Core.Bool.{Bool, false, _||_}
+use mathlib.Core.Bool.{Bool, true, false, _||_}
 use mathlib.Core.List.{List, [], _∷_}
 use Rattle.lists.specs.Choice.{if_then_else_}
 
@@ -23,3 +23,17 @@ keep p (x ∷ xs) = let rest = keep p xs in if p x then x ∷ rest else rest
 abbrev pub any : (ℕ → Bool) → List ℕ → Bool
 any p [] = false
 any p (x ∷ xs) = p x || any p xs
+
+-- whether a list has no member
+abbrev pub isEmpty : List ℕ → Bool
+isEmpty [] = true
+isEmpty (x ∷ xs) = false
+
+-- the first member of a list, or a number where it has none
+abbrev pub headOr : ℕ → List ℕ → ℕ
+headOr n [] = n
+headOr n (x ∷ xs) = x
+
+-- the lowest number below n that passes a test, or n where none does
+unfoldable pub lowest : (ℕ → Bool) → ℕ → ℕ
+lowest p n = headOr n (keep p (upto n))

@@ -2,8 +2,9 @@
 -- fails refuses with its number and row; where none fails the answer stands.
 use Prim.Native.Nat.{ℕ}
 use mathlib.Core.Bool.{Bool, true, not, _&&_}
-use mathlib.Core.List.{List, [], _∷_}
+use mathlib.Core.List.{List, [], _∷_, map}
 use Rattle.lists.specs.Choice.{if_then_else_}
+use Rattle.lists.specs.Range.{upto}
 
 -- what a call gives back: its answer, or the number and row of a refusal
 pub data Reply (A : Type 0) : Type 0 where
@@ -19,6 +20,10 @@ pub record Test : Type 0 where
 -- a test whose row is 0
 abbrev pub test : ℕ → Bool → Test
 test n f = record { number = n; row = 0; fails = f }
+
+-- one test for each of the first n domains or rows, the lowest first: its row is the domain or row
+unfoldable pub each : ℕ → ℕ → (ℕ → Bool) → List Test
+each n number fails = map (λ (r : ℕ). record { number = number; row = r; fails = fails r }) (upto n)
 
 -- the answer stands unless a test fails, and then the first that does refuses
 unfoldable pub unless : {A : Type 0} → List Test → A → Reply A

@@ -1,0 +1,134 @@
+-- The five calls, for every board, table and argument: the reply, the moves, and the board and table afterwards. Document 01, "Board and
+-- frame table" and refusals 2 to 14.
+use Prim.Native.Nat.{ℕ, _*_}
+use mathlib.Core.Bool.{_&&_}
+use mathlib.Core.List.{List, [], _∷_, _++_}
+use lib.Dec.{ltb}
+use lib.ListN.{length, set}
+use Rattle.lists.specs.Range.{headOr, isEmpty}
+use Rattle.refusal.specs.Reply.{Reply, Answers, Refuses, Test, test, unless}
+use Rattle.board.specs.declared.Board.{Board}
+use Rattle.board.specs.Tests.{grant, activeSet, emptyOrOutside, boardTests, callerTest}
+use Rattle.calls.specs.Table.{State, word, wordOf, pageFor, mappedTo, choices, strays}
+
+-- what a call answers
+pub data Answer : Type 0 where
+  -- look: the frame, or unmapped
+  Mapped : ℕ → Answer
+  Unmapped : Answer
+  -- fault: the frame, old or new
+  Old : ℕ → Answer
+  New : ℕ → Answer
+  -- release: the frame that became free
+  Freed : ℕ → Answer
+  -- colours: the active set
+  Active : ℕ → Answer
+  -- recolour: the count of moves
+  Moved : ℕ → Answer
+
+-- a triple of the move list: page, old frame and new frame
+pub record Move : Type 0 where
+  pub page : ℕ
+  pub source : ℕ
+  pub target : ℕ
+
+-- what an accepted call does: its answer, its moves, and the board and table that it leaves
+pub record Done : Type 0 where
+  pub answer : Answer
+  pub moves : List Move
+  pub next : State
+
+pub record Outcome : Type 0 where
+  pub reply : Reply Answer
+  pub moves : List Move
+  pub next : State
+
+-- a refusal moves nothing and changes nothing
+unfoldable pub settle : State → Reply Done → Outcome
+settle s (Answers d) = record { reply = Answers (d .answer); moves = d .moves; next = d .next }
+settle s (Refuses n r) = record { reply = Refuses n r; moves = []; next = s }
+
+-- 2 to 8 come first in every call, then the call's own tests
+unfoldable pub called : State → ℕ → List Test → Done → Outcome
+called s d own done =
+    settle s (unless (boardTests (s .board) (length (s .table)) ++ (callerTest (s .board) d ∷ own)) done)
+
+-- 10: a page exceeds 4,095
+abbrev pub pageTest : ℕ → Test
+pageTest p = test 10 (ltb 4095 p)
+
+-- an answer that changes nothing
+abbrev pub only : State → Answer → Done
+only s a = record { answer = a; moves = []; next = s }
+
+-- one word of the table is written
+abbrev pub written : State → ℕ → ℕ → State
+written s f w = record { board = s .board; table = set (s .table) f w }
+
+-- look: the lowest frame with the domain's word for the page, or unmapped
+abbrev pub lookAnswer : List ℕ → Answer
+lookAnswer [] = Unmapped
+lookAnswer (f ∷ fs) = Mapped f
+
+unfoldable pub look : State → ℕ → ℕ → Outcome
+look s d p = called s d (pageTest p ∷ []) (only s (lookAnswer (mappedTo s d p)))
+
+-- fault: if the page is mapped, that frame; else the lowest free frame with a colour in the active set, which gets the word.
+-- 12: an unmapped page faults and no free frame has an active colour
+abbrev pub faultDone : State → ℕ → List ℕ → List ℕ → Done
+faultDone s w (f ∷ fs) gs = only s (Old f)
+faultDone s w [] gs = record { answer = New (headOr 0 gs); moves = []; next = written s (headOr 0 gs) w }
+
+unfoldable pub fault : State → ℕ → ℕ → Outcome
+fault s d p =
+    let ms = mappedTo s d p in
+    let gs = choices s (activeSet (s .board) d) in
+    called s d (pageTest p ∷ test 12 (isEmpty ms && isEmpty gs) ∷ []) (faultDone s (wordOf d p) ms gs)
+
+-- release: the lowest such frame becomes free, and is the answer. 14: the page to release is unmapped
+unfoldable pub release : State → ℕ → ℕ → Outcome
+release s d p =
+    let ms = mappedTo s d p in
+    called s d (pageTest p ∷ test 14 (isEmpty ms) ∷ [])
+    (record { answer = Freed (headOr 0 ms); moves = []; next = written s (headOr 0 ms) 0 })
+
+-- colours: the domain's active set
+unfoldable pub colours : State → ℕ → Outcome
+colours s d = called s d [] (only s (Active (activeSet (s .board) d)))
+
+-- recolour: the domain's frames outside the new set, ascending, go one by one to the free frames inside it, ascending
+unfoldable pub pairUp : ℕ → List ℕ → List ℕ → List ℕ → List Move
+pairUp d t [] gs = []
+pairUp d t (v ∷ vs) [] = []
+pairUp d t (v ∷ vs) (g ∷ gs) = record { page = pageFor d (word t v); source = v; target = g } ∷ pairUp d t vs gs
+
+-- the word goes to the new frame, and the old one becomes free
+abbrev pub move : List ℕ → Move → List ℕ
+move t m = set (set t (m .source) 0) (m .target) (word t (m .source))
+
+unfoldable pub moveAll : List ℕ → List Move → List ℕ
+moveAll t [] = t
+moveAll t (m ∷ ms) = moveAll (move t m) ms
+
+-- the new set is active
+abbrev pub withActive : Board → ℕ → ℕ → Board
+withActive b d c =
+    record { colours = b .colours; frames = b .frames; domains = b .domains; grants = b .grants; active = set (b .active) d c }
+
+-- 9: the set is 0 or has a bit outside the grant. 12: more frames to move than free frames in the new set. 13: the move list is
+-- shorter than three words for each move
+unfoldable pub recolour : State → ℕ → ℕ → List ℕ → Outcome
+recolour s d c lent =
+    let vs = strays s d c in
+    let gs = choices s c in
+    let ms = pairUp d (s .table) vs gs in
+    called s d
+    (test 9 (emptyOrOutside (grant (s .board) d) c)
+    ∷ test 12 (ltb (length gs) (length vs))
+    ∷ test 13 (ltb (length lent) (3 * length vs))
+    ∷ [])
+    (record {
+      answer = Moved (length vs);
+      moves = ms;
+      next = record { board = withActive (s .board) d c; table = moveAll (s .table) ms };
+    })

@@ -1,0 +1,55 @@
+-- The frame table: document 01, "Board and frame table". Its words, and the frames of a domain, ascending: those mapped to a page,
+-- the free ones of a colour set, and those that lie outside a set.
+use Prim.Native.Nat.{ℕ, _+_, _-_, _*_}
+use mathlib.Core.Bool.{Bool, not, _&&_}
+use mathlib.Core.List.{List}
+use lib.Dec.{eqb, leb}
+use lib.ListN.{getD}
+use Rattle.lists.specs.Range.{upto, keep}
+use Rattle.colours.specs.Cache.{colourOf}
+use Rattle.colours.specs.Sets.{has}
+use Rattle.board.specs.declared.Board.{Board}
+
+-- the board and the table that a call gets, and those that it leaves
+pub record State : Type 0 where
+  pub board : Board
+  pub table : List ℕ
+
+abbrev pub stateOf : Board → List ℕ → State
+stateOf b t = record { board = b; table = t }
+
+-- the word of frame f
+abbrev pub word : List ℕ → ℕ → ℕ
+word t f = getD t f 0
+
+-- held by domain d for page p
+abbrev pub wordOf : ℕ → ℕ → ℕ
+wordOf d p = 1 + 4096 * d + p
+
+-- held by domain d, for one of its pages 0 to 4,095
+abbrev pub isOf : ℕ → ℕ → Bool
+isOf d w = leb (wordOf d 0) w && leb w (wordOf d 4095)
+
+-- the page for which domain d holds it
+abbrev pub pageFor : ℕ → ℕ → ℕ
+pageFor d w = w - wordOf d 0
+
+-- the colour of frame f is in a set
+abbrev pub inSet : Board → ℕ → ℕ → Bool
+inSet b s f = has s (colourOf (b .colours) f)
+
+-- the frames that pass a test, ascending
+unfoldable pub framesWith : State → (ℕ → Bool) → List ℕ
+framesWith s p = keep p (upto (s .board .frames))
+
+-- the frames with the domain's word for a page
+unfoldable pub mappedTo : State → ℕ → ℕ → List ℕ
+mappedTo s d p = framesWith s (λ (f : ℕ). eqb (word (s .table) f) (wordOf d p))
+
+-- the free frames with a colour in a set, in the order in which they are taken
+unfoldable pub choices : State → ℕ → List ℕ
+choices s c = framesWith s (λ (f : ℕ). eqb (word (s .table) f) 0 && inSet (s .board) c f)
+
+-- the domain's frames with a colour outside a set
+unfoldable pub strays : State → ℕ → ℕ → List ℕ
+strays s d c = framesWith s (λ (f : ℕ). isOf d (word (s .table) f) && not (inSet (s .board) c f))
