@@ -1,5 +1,6 @@
 -- The laws of `colours`. `Theorems` has those that a user of the crate relies on, in one page; the others argue for them and for the code.
 pub mod Bits
+pub mod Common
 pub mod Ranges
 pub mod Drop
 pub mod Exact

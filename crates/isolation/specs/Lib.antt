@@ -1,0 +1,2 @@
+-- The statement of the domain rule.
+pub mod DomainRule
