@@ -2,3 +2,5 @@
 pub mod Unwinding
 pub mod TestLists
 pub mod Accepted
+pub mod Invariant
+pub mod Found

@@ -2,3 +2,4 @@
 pub mod Split
 pub mod Kept
 pub mod Members
+pub mod Filter
