@@ -165,11 +165,11 @@ still b a a′ words e f =
       actives = each-passes 7 (λ (d : ℕ). emptyOrOutside (grant b d) (getD a′ d 0)) (b .domains) f;
     })
 
--- a fine active set lies inside its grant, and is not 0
-pub fine-inside : (b : Board) (a : List ℕ) (d c : ℕ) → Fine b a d → has (getD a d 0) c ≡ true → has (grant b d) c ≡ true
-fine-inside b a d c f h =
-    let r = or-neither (eqb (getD a d 0) 0) _ f .1 in
-    inside-has (getD a d 0) (grant b d) c (eqb-true _ _ (not-false (eqb (bitAnd (getD a d 0) (grant b d)) (getD a d 0)) r)) h
+-- a set that is not refused lies inside the grant, and is not 0
+pub set-inside : (b : Board) (d s : ℕ) → emptyOrOutside (grant b d) s ≡ false → (c : ℕ) → has s c ≡ true → has (grant b d) c ≡ true
+set-inside b d s f c h =
+    let r = or-neither (eqb s 0) _ f .1 in
+    inside-has s (grant b d) c (eqb-true _ _ (not-false (eqb (bitAnd s (grant b d)) s) r)) h
 
 pub fine-some : (b : Board) (a : List ℕ) (d : ℕ) → Fine b a d → getD a d 0 ≡ 0 → ⊥
 fine-some b a d f = eqb-false (getD a d 0) 0 (or-neither (eqb (getD a d 0) 0) _ f .0)

@@ -4,3 +4,4 @@ pub mod TestLists
 pub mod Accepted
 pub mod Invariant
 pub mod Found
+pub mod Keeps
