@@ -5,3 +5,4 @@ pub mod Accepted
 pub mod Invariant
 pub mod Found
 pub mod Keeps
+pub mod Sees

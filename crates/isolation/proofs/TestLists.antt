@@ -47,15 +47,25 @@ pub record MeetDone (R : State → State → Type 0) (o q : Done) : Type 0 where
   pub moves : o .moves ≡ q .moves
   pub next : R (o .next) (q .next)
 
-pub unless-two : (R : State → State → Type 0) (s r : State) (ts : List Test) (o q : Done) → R s r → (passes ts ≡ true → MeetDone R o q)
-    → Meet R (settle s (unless ts o)) (settle r (unless ts q))
+-- two lists of tests of which each two are equal where those before pass
+abbrev pub Alike : List Test → List Test → Type 0
+Alike [] [] = Unit {0}
+Alike [] (u ∷ us) = ⊥
+Alike (t ∷ ts) [] = ⊥
+Alike (t ∷ ts) (u ∷ us) = (t ≡ u) × (t .fails ≡ false → Alike ts us)
+
+pub unless-two : (R : State → State → Type 0) (s r : State) (ts us : List Test) (o q : Done) → R s r → Alike ts us
+    → (passes ts ≡ true → MeetDone R o q) → Meet R (settle s (unless ts o)) (settle r (unless us q))
 unfolding unless passes settle
-unless-two R s r [] o q k f =
+unless-two R s r [] [] o q k same f =
     let m = f refl in record { reply = ap Answers (m .answer); moves = m .moves; next = m .next }
-unless-two R s r (t ∷ ts) o q k f =
-    cases (t .fails)
+unless-two R s r [] (u ∷ us) o q k same f = absurd same
+unless-two R s r (t ∷ ts) [] o q k same f = absurd same
+unless-two R s r (t ∷ ts) (u ∷ us) o q k same f =
+    rw (← (same .0))
+    (cases (t .fails)
     (λ e. rw e (record { reply = refl; moves = refl; next = k }))
-    (λ e. rw e (unless-two R s r ts o q k (λ p. f (rw e p))))
+    (λ e. rw e (unless-two R s r ts us o q k (same .1 e) (λ p. f (rw e p)))))
 
 -- the caller's test passes: the domain is below the count
 pub caller-below : (s : State) (d : ℕ) (own : List Test) → passes (callerTest (s .board) d ∷ own) ≡ true → (d < s .board .domains) × (passes own ≡ true)
