@@ -6,3 +6,5 @@ pub mod Invariant
 pub mod Found
 pub mod Keeps
 pub mod Sees
+pub mod Reveals
+pub mod Rule
