@@ -16,6 +16,8 @@ use Rattle.lists.proofs.Split.{cases, and-both}
 use Rattle.refusal.specs.Reply.{Test, test, each, passes}
 use Rattle.refusal.proofs.Replies.{passed-first}
 use Rattle.colours.specs.Sets.{has, isColourSet}
+use Rattle.colours.specs.Cache.{isColourCount}
+use Rattle.colours.proofs.Ranges.{count-range}
 use Rattle.colours.proofs.Common.{inside-has, apart-has}
 use Rattle.board.specs.declared.Board.{Board}
 use Rattle.board.specs.Tests.{grant, activeSet, shares, sharesWithAnother, emptyOrOutside, sizeTests, domainTests, boardTests}
@@ -84,6 +86,7 @@ abbrev pub Fine : Board → List ℕ → ℕ → Type 0
 Fine b a d = emptyOrOutside (grant b d) (getD a d 0) ≡ false
 
 pub record Facts (b : Board) (a : List ℕ) (words : ℕ) : Type 0 where
+  pub coloured : 0 < b .colours
   pub long : words ≡ b .frames
   pub few : b .domains ≤ 8
   pub disjoint : (d e c : ℕ) → d < b .domains → e < b .domains → has (grant b d) c ≡ true → has (grant b e) c ≡ true → d ≡ e
@@ -120,15 +123,18 @@ join-parts b words p =
     passes-join (sizeTests b words) (domainTests b) (p .sizes)
     (passes-join (grantTests b ++ sharedTests b) (activeTests b) (passes-join (grantTests b) (sharedTests b) (p .grants) (p .shared)) (p .actives))
 
-sizes-known : (b : Board) (words : ℕ) → passes (sizeTests b words) ≡ true → (words ≡ b .frames) × (b .domains ≤ 8)
+sizes-known : (b : Board) (words : ℕ) → passes (sizeTests b words) ≡ true → (0 < b .colours) × (words ≡ b .frames) × (b .domains ≤ 8)
 unfolding sizeTests
 sizes-known b words e =
-    let after-2 = passed-first _ _ e .1 in
-    let three = passed-first _ _ after-2 in
+    let two = passed-first _ _ e in
+    let three = passed-first _ _ (two .1) in
     let four = passed-first _ _ (three .1) in
     let table = or-neither (ltb 4096 (b .frames)) (not (eqb words (b .frames))) (or-neither (eqb (b .frames) 0) _ (three .0) .1) .1 in
-    let count = or-neither (eqb (b .domains) 0) (ltb 8 (b .domains)) (four .0) .1 in
-    (eqb-true words (b .frames) (not-false (eqb words (b .frames)) table), ltb-false 8 (b .domains) count)
+    let count = or-neither (eqb (b .domains) 0) (ltb 8 (b .domains)) (four .0) .1 in (
+      count-range (b .colours) (not-false (isColourCount (b .colours)) (two .0)) .0,
+      eqb-true words (b .frames) (not-false (eqb words (b .frames)) table),
+      ltb-false 8 (b .domains) count,
+    )
 
 -- of two domains whose grants have one colour
 grants-apart : (b : Board) → passes (sharedTests b) ≡ true → (d e c : ℕ) → d < b .domains → e < b .domains
@@ -146,8 +152,9 @@ facts b a words e =
     let p = parts (over b a) words e in
     let z = sizes-known (over b a) words (p .sizes) in
     record {
-      long = z .0;
-      few = z .1;
+      coloured = z .0;
+      long = z .1;
+      few = z .2;
       disjoint = grants-apart (over b a) (p .shared);
       fine = each-passed 7 (λ (d : ℕ). emptyOrOutside (grant b d) (getD a d 0)) (b .domains) (p .actives);
     }

@@ -50,7 +50,7 @@ module _ (b : Board) (t₀ : List ℕ) where
     free-frame x h q g = record { below = h; own = g; open-to = λ z. let r = inv .reserved x h .1 z in lt-irrefl 0 (omega arith) }
 
     -- a word that is one of e's, by its page
-    word-page : (w : ℕ) → isOf e w ≡ true → (w - wordOf e 0 ≤ 4095) × (w ≡ wordOf e (w - wordOf e 0))
+    pub word-page : (w : ℕ) → isOf e w ≡ true → (w - wordOf e 0 ≤ 4095) × (w ≡ wordOf e (w - wordOf e 0))
     word-page w h =
         let r = and-both (leb (wordOf e 0) w) (leb w (wordOf e 4095)) h in
         let low = leb-true (wordOf e 0) w (r .0) in

@@ -8,3 +8,4 @@ pub mod Keeps
 pub mod Sees
 pub mod Reveals
 pub mod Rule
+pub mod Theorems

@@ -58,8 +58,7 @@ module _ (P : Program) (b : Board) (t₀ : List ℕ) (d : ℕ) (below : d < b .d
   own-step s r c k e =
       let m = call-meets b t₀ d s r (k .left-good) (k .right-good) (k .agree) c (eqb-true (names c) d e) in
       let ours = P .each-once s c (outcome s c .moves) in
-      let theirs = Permᴰ·symm (P .each-once r c (outcome r c .moves)) in
-      (
+      let theirs = Permᴰ·symm (P .each-once r c (outcome r c .moves)) in (
         (m .reply, List·Permᴰ·trans (subst (λ (x : List Move). List·Permᴰ (P .arrange s c (outcome s c .moves)) x) (m .moves) ours) theirs),
         record {
           left-good = call-keeps b t₀ s (k .left-good) c .good-next;
@@ -109,7 +108,7 @@ module _ (P : Program) (b : Board) (t₀ : List ℕ) (d : ℕ) (below : d < b .d
   shown : (s r s′ r′ : State) → Related s s′ → Related r r′ → ((c : Call) → names-it d c ≡ true → Same (told P s c) (told P r c)) → Shows s′ r′
   shown s r s′ r′ k l same =
       let at-reply : (c : Call) → names-it d c ≡ true → outcome s′ c .reply ≡ outcome r′ c .reply = λ c e.
-          sym (own-step s s′ c k e .0 .0) ∙ same c e .0 ∙ own-step r r′ c l e .0 .0 in
+      sym (own-step s s′ c k e .0 .0) ∙ same c e .0 ∙ own-step r r′ c l e .0 .0 in
       (at-reply (Colours d) (eq-eqb d d refl), λ p small. at-reply (Look d p) (eq-eqb d d refl))
 
   join : (x y z : Told) → Same x z → Same y z → Same x y
@@ -168,11 +167,10 @@ domain-rule P start ok empty d below h k =
     let g = start-good start ok empty in
     let self : Related P b t₀ d below start start = record { left-good = g; right-good = g; agree = record { active = refl; words = λ f l e. refl } } in
     let r = rule step (told P) (names-it d) Same (Related P b t₀ d below) (own-step P b t₀ d below) (other-step P b t₀ d below)
-        (Shows P b t₀ d below) (join P b t₀ d below) (left P b t₀ d below) (reveal P b t₀ d below) (shown P b t₀ d below)
-        start self h k in
+    (Shows P b t₀ d below) (join P b t₀ d below) (left P b t₀ d below) (reveal P b t₀ d below) (shown P b t₀ d below)
+    start self h k in
     let h-is = replayed P d start h k h in
-    let k-is = replayed P d start h k k in
-    (
+    let k-is = replayed P d start h k k in (
       λ same. rw (h-is, k-is) at (r .0 (λ l m e. to-heard P d start h k l m (same l m (sym (own-is P d l) ∙ e ∙ own-is P d m)))),
       λ w l m e. from-heard P d start h k l m (r .1 (rw (h-is, k-is) w) l m (own-is P d l ∙ e ∙ sym (own-is P d m))),
     )

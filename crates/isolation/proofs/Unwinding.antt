@@ -41,7 +41,6 @@ module _ {A : Type 0} (P : A → A → Type 0) (join : (a b c : A) → P a c →
 module _ {S C A : Type 0} (next : S → C → S) (told : S → C → A) (mine : C → Bool) (Same : A → A → Type 0) (R : S → S → Type 0)
     (own-step : (s r : S) (c : C) → R s r → mine c ≡ true → Same (told s c) (told r c) × R (next s c) (next r c))
     (other-step : (s r : S) (c : C) → R s r → mine c ≡ false → R (next s c) r) where
-
   -- a list run from one state, and its own calls run from a related one, lead to related states
   pub meet : (l : List C) (s r : S) → R s r → R (runs next told mine s l) (runs next told mine r (owns next told mine l))
   unfolding runs owns
@@ -65,7 +64,6 @@ module _ {S C A : Type 0} (next : S → C → S) (told : S → C → A) (mine : 
       (left : (s r : S) → R s r → R s s)
       (reveal : (s r s′ r′ : S) → R s s′ → R r r′ → Shows s′ r′ → R s r)
       (shown : (s r s′ r′ : S) → R s s′ → R r r′ → ((c : C) → mine c ≡ true → Same (told s c) (told r c)) → Shows s′ r′) where
-
     abbrev pub AlikeAfter : S → S → Type 0
     AlikeAfter s r =
         (l m : List C) → owns next told mine l ≡ owns next told mine m
