@@ -1,7 +1,11 @@
 //! The separate tool: the recorder's rules written anew from the papers, without a look at the proved
-//! code. It writes the vectors that the programs `vectors_*` answer, or checks those in the tree.
+//! code. It writes the vectors that the programs `vectors_*` answer, or checks those in the tree; and it
+//! runs random histories of the five calls against the domain rule.
 
+mod boards;
 mod cache;
+mod frames;
+mod history;
 mod random;
 mod reply;
 mod vectors;
@@ -9,38 +13,59 @@ mod vectors;
 use std::path::Path;
 use std::process::ExitCode;
 
-const USAGE: &str = "usage: reference write DIR [SEED] | reference check DIR
-  write  writes DIR/vectors_*/stdin and stdout; another seed gives other random cases
-  check  says whether those files are what `write` would write today";
+const USAGE: &str =
+    "usage: reference write DIR [SEED] | reference check DIR | reference histories [SEED]
+  write      writes DIR/vectors_*/stdin and stdout; another seed gives other random cases
+  check      says whether those files are what `write` would write today
+  histories  runs random histories of the frame calls and says whether the domain rule holds of them";
 
 /// The seed of the vectors in the tree.
 const SEED: u64 = 2003;
 
+/// Pairs of histories that `histories` compares.
+const PAIRS: u32 = 10_000;
+
 fn main() -> ExitCode {
     let words: Vec<String> = std::env::args().skip(1).collect();
     let words: Vec<&str> = words.iter().map(String::as_str).collect();
-    let (write, dir, seed) = match words.as_slice() {
-        ["write", dir] => (true, dir, Some(SEED)),
-        ["write", dir, seed] => (true, dir, seed.parse().ok()),
-        ["check", dir] => (false, dir, Some(SEED)),
-        _ => (false, &"", None),
+    let good = match words.as_slice() {
+        ["write", dir] => Some(write(dir, SEED)),
+        ["write", dir, seed] => seed.parse().ok().map(|seed| write(dir, seed)),
+        ["check", dir] => Some(check(dir)),
+        ["histories"] => Some(histories(SEED)),
+        ["histories", seed] => seed.parse().ok().map(histories),
+        _ => None,
     };
-    let Some(seed) = seed else {
-        eprintln!("{USAGE}");
-        return ExitCode::from(2);
-    };
+    match good {
+        Some(true) => ExitCode::SUCCESS,
+        Some(false) => ExitCode::FAILURE,
+        None => {
+            eprintln!("{USAGE}");
+            ExitCode::from(2)
+        }
+    }
+}
+
+fn write(dir: &str, seed: u64) -> bool {
     let mut good = true;
     for set in vectors::all(seed) {
         good &= set.report();
-        good &= if write {
-            set.write(Path::new(dir))
-        } else {
-            set.check(Path::new(dir))
-        };
+        good &= set.write(Path::new(dir));
     }
-    if good {
-        ExitCode::SUCCESS
-    } else {
-        ExitCode::FAILURE
+    good
+}
+
+fn check(dir: &str) -> bool {
+    let mut good = true;
+    for set in vectors::all(SEED) {
+        good &= set.report();
+        good &= set.check(Path::new(dir));
     }
+    good
+}
+
+fn histories(seed: u64) -> bool {
+    let tally = history::check(seed, PAIRS);
+    tally.report();
+    tally.good()
 }

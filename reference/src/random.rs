@@ -29,4 +29,15 @@ impl Random {
         let drop = self.below(64);
         self.next() >> drop
     }
+
+    pub fn pick<T: Copy>(&mut self, from: &[T]) -> T {
+        from[self.below(from.len() as u64) as usize]
+    }
+
+    pub fn shuffle<T>(&mut self, list: &mut [T]) {
+        for last in (1..list.len()).rev() {
+            let place = self.below(last as u64 + 1) as usize;
+            list.swap(place, last);
+        }
+    }
 }

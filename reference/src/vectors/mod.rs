@@ -1,10 +1,12 @@
 //! Vectors: the input of a program `vectors_*` and what it must write. Each set reports how often each
-//! refusal occurs, and fails where one that its operations can give never does.
+//! refusal occurs, and fails where one that its operations can give never does, or never with some row.
 
 mod colours;
+mod frames;
 
 use std::collections::BTreeMap;
 use std::fs;
+use std::ops::Range;
 use std::path::{Path, PathBuf};
 
 use crate::reply::Reply;
@@ -14,13 +16,14 @@ pub struct Set {
     stdin: Vec<u8>,
     stdout: Vec<u8>,
     cases: u32,
-    /// How often each operation gave each refusal (0: an answer), and those that must occur.
-    seen: BTreeMap<(&'static str, u32), u32>,
-    wanted: Vec<(&'static str, u32)>,
+    /// How often each operation gave each refusal (0: an answer) with each row, and those that must
+    /// occur.
+    seen: BTreeMap<(&'static str, u32, u32), u32>,
+    wanted: Vec<(&'static str, u32, u32)>,
 }
 
 pub fn all(seed: u64) -> Vec<Set> {
-    vec![colours::set(seed)]
+    vec![colours::set(seed), frames::set(seed)]
 }
 
 impl Set {
@@ -35,10 +38,15 @@ impl Set {
         }
     }
 
+    /// Answers of the operation, and its refusals with row 0.
     fn want(&mut self, operation: &'static str, numbers: &[u32]) {
-        self.wanted.push((operation, 0));
+        self.wanted.push((operation, 0, 0));
         self.wanted
-            .extend(numbers.iter().map(|number| (operation, *number)));
+            .extend(numbers.iter().map(|number| (operation, *number, 0)));
+    }
+
+    fn want_rows(&mut self, operation: &'static str, number: u32, rows: Range<u32>) {
+        self.wanted.extend(rows.map(|row| (operation, number, row)));
     }
 
     fn line(&mut self, text: &str) {
@@ -49,30 +57,43 @@ impl Set {
     /// Counts a case, and writes the line of its reply.
     fn reply<A: std::fmt::Display>(&mut self, operation: &'static str, reply: Reply<A>) {
         self.cases += 1;
-        let (number, text) = match reply {
-            Reply::Answer(a) => (0, a.to_string()),
-            Reply::Refused { number, row } => (number, format!("refused {number} {row}")),
+        let (number, row, text) = match reply {
+            Reply::Answer(a) => (0, 0, a.to_string()),
+            Reply::Refused { number, row } => (number, row, format!("refused {number} {row}")),
         };
-        *self.seen.entry((operation, number)).or_default() += 1;
+        *self.seen.entry((operation, number, row)).or_default() += 1;
         self.line(&text);
     }
 
     pub fn report(&self) -> bool {
         println!("{}: {} cases", self.crate_name, self.cases);
-        for ((operation, number), count) in &self.seen {
+        let mut rows_of: BTreeMap<_, Vec<(u32, u32)>> = BTreeMap::new();
+        for ((operation, number, row), count) in &self.seen {
+            let rows = rows_of.entry((operation, number)).or_default();
+            rows.push((*row, *count));
+        }
+        for ((operation, number), rows) in rows_of {
             let what = match number {
                 0 => "answered".to_string(),
                 _ => format!("refused {number}"),
             };
-            println!("  {operation}: {what} {count} times");
+            let total: u32 = rows.iter().map(|(_, count)| count).sum();
+            let by_row: Vec<String> = match rows.as_slice() {
+                [(0, _)] => Vec::new(),
+                rows => rows
+                    .iter()
+                    .map(|(row, count)| format!("; row {row}: {count}"))
+                    .collect(),
+            };
+            println!("  {operation}: {what} {total} times{}", by_row.concat());
         }
         let missing: Vec<_> = self
             .wanted
             .iter()
             .filter(|key| !self.seen.contains_key(key))
             .collect();
-        for (operation, number) in &missing {
-            println!("  {operation}: refusal {number} never occurs");
+        for (operation, number, row) in &missing {
+            println!("  {operation}: refusal {number} with row {row} never occurs");
         }
         missing.is_empty()
     }

@@ -1,0 +1,119 @@
+//! Random boards, empty frame tables and numbers for calls, shared by the vectors and the histories.
+//! The terms are those of document 01, "Board and frame table".
+
+use crate::cache::colours;
+use crate::frames::{Board, DOMAINS, FREE, RESERVED};
+use crate::random::Random;
+
+/// A nonempty part of the set, unless it is empty.
+pub fn part_of(random: &mut Random, set: u32) -> u32 {
+    let part = random.word() & set;
+    if part != 0 || set == 0 {
+        return part;
+    }
+    1 << random.pick(&colours(set))
+}
+
+/// A board that passes 2 to 7, given at least as many colours as domains. Some colours may be
+/// nobody's, and the fields of domains beyond the count hold anything.
+pub fn accepted(random: &mut Random, n: u32, frames: u32, domains: u32) -> Board {
+    let mut order: Vec<u32> = (0..n).collect();
+    random.shuffle(&mut order);
+    let nobodys = random.below(3) == 0;
+    let mut grants = [0; DOMAINS];
+    for (place, colour) in order.into_iter().enumerate() {
+        let domain = match place as u32 {
+            first if first < domains => first,
+            _ if nobodys && random.below(2) == 0 => continue,
+            _ => random.below(domains.into()) as u32,
+        };
+        grants[domain as usize] |= 1 << colour;
+    }
+    let mut active = grants;
+    for set in &mut active {
+        if random.below(2) == 0 {
+            *set = part_of(random, *set);
+        }
+    }
+    for domain in domains as usize..DOMAINS {
+        let sets = [0, 1, 0xFFFF, u32::MAX, grants[0], random.word()];
+        grants[domain] = random.pick(&sets);
+        active[domain] = random.pick(&sets);
+    }
+    Board {
+        colours: n,
+        frames,
+        domains,
+        grants,
+        active,
+    }
+}
+
+/// An empty table: free frames, and here and there a reserved one.
+pub fn empty_table(random: &mut Random, frames: u32) -> Vec<u16> {
+    let percent = random.pick(&[0, 10, 30]);
+    (0..frames)
+        .map(|_| match random.below(100) < percent {
+            true => RESERVED,
+            false => FREE,
+        })
+        .collect()
+}
+
+/// A domain below the count as a rule, at times one of the numbers that are none.
+pub fn any_domain(random: &mut Random, domains: u32) -> u32 {
+    if random.below(12) > 0 {
+        return random.below(domains.clamp(1, 8).into()) as u32;
+    }
+    let edges = [
+        domains,
+        domains.wrapping_add(1),
+        7,
+        8,
+        16,
+        256,
+        1 << 16,
+        1 << 20,
+        1 << 31,
+        u32::MAX,
+    ];
+    random.pick(&edges)
+}
+
+/// One of the given pages as a rule, at times one near a limit or a number that is no page.
+pub fn any_page(random: &mut Random, pages: &[u32]) -> u32 {
+    if random.below(10) > 0 {
+        return random.pick(pages);
+    }
+    let near = random.pick(pages);
+    let edges = [
+        0,
+        1,
+        4094,
+        4095,
+        4096,
+        4097,
+        near.wrapping_add(4096),
+        near.wrapping_add(8192),
+        65_535,
+        65_536,
+        near.wrapping_add(1 << 16),
+        near.wrapping_add(1 << 31),
+        u32::MAX,
+        random.word(),
+    ];
+    random.pick(&edges)
+}
+
+/// A set to recolour to: a part of the grant as a rule, at times one that is refused.
+pub fn any_set(random: &mut Random, grant: u32) -> u32 {
+    let part = part_of(random, grant);
+    match random.below(16) {
+        0 => 0,
+        1 => part | 1 << random.below(32),
+        2 => random.word() & 0xFFFF,
+        3 => random.pick(&[u32::MAX, 1 << 16, 1 << 31, part | 1 << 31, part << 16]),
+        4 | 5 => grant,
+        _ => part,
+    }
+}

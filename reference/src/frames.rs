@@ -1,0 +1,393 @@
+//! The board, the frame table and its five calls: document 01, "Board and frame table", with refusals 2
+//! to 14 of "Refusals in the order tested". Each call is defined for every board, table and number.
+
+use std::fmt;
+
+use crate::cache::is_count;
+use crate::reply::Reply;
+
+pub const DOMAINS: usize = 8;
+pub const FRAMES: u32 = 4096;
+pub const PAGES: u32 = 4096;
+
+pub const FREE: u16 = 0;
+/// Held for the hypervisor; the only word besides 0 in an empty table.
+pub const RESERVED: u16 = 65_535;
+
+/// Grants and active sets of domains at or beyond the count are neither read nor changed.
+#[derive(Clone, Debug, PartialEq, Eq)]
+pub struct Board {
+    pub colours: u32,
+    pub frames: u32,
+    pub domains: u32,
+    pub grants: [u32; DOMAINS],
+    pub active: [u32; DOMAINS],
+}
+
+#[derive(Clone, Copy, Debug, PartialEq, Eq)]
+pub enum Answer {
+    Mapped(usize),
+    Unmapped,
+    Old(usize),
+    New(usize),
+    Freed(usize),
+    Active(u32),
+    Moved(usize),
+}
+
+impl fmt::Display for Answer {
+    fn fmt(&self, f: &mut fmt::Formatter) -> fmt::Result {
+        match self {
+            Answer::Mapped(frame) => write!(f, "mapped {frame}"),
+            Answer::Unmapped => write!(f, "unmapped"),
+            Answer::Old(frame) => write!(f, "old {frame}"),
+            Answer::New(frame) => write!(f, "new {frame}"),
+            Answer::Freed(frame) => write!(f, "freed {frame}"),
+            Answer::Active(set) => write!(f, "active {set}"),
+            Answer::Moved(count) => write!(f, "moved {count}"),
+        }
+    }
+}
+
+/// The word of a frame that the domain holds for the page. In 64 bits, where no two pairs of 32-bit
+/// numbers wrap to one word of the table.
+pub fn word(domain: u32, page: u32) -> u64 {
+    1 + u64::from(PAGES) * u64::from(domain) + u64::from(page)
+}
+
+/// The page for which the domain holds a frame with this word.
+fn page_held(domain: u32, held: u16) -> Option<u16> {
+    let page = u64::from(held).checked_sub(word(domain, 0))?;
+    (page < u64::from(PAGES)).then_some(page as u16)
+}
+
+fn has(set: u32, colour: u32) -> bool {
+    set >> colour & 1 == 1
+}
+
+/// Whether the set is 0 or has a bit outside the limit.
+fn unfit(set: u32, limit: u32) -> bool {
+    set == 0 || (0..32).any(|c| has(set, c) && !has(limit, c))
+}
+
+/// Refusals 2 to 7, which accept a board with its table: one number is tested over all domains before
+/// the next, and the row is the lowest domain at fault. Of two grants that meet, 6 names the lower.
+pub fn refused_board(board: &Board, table: &[u16]) -> Option<(u32, u32)> {
+    if !is_count(board.colours.into()) {
+        return Some((2, 0));
+    }
+    if board.frames == 0 || board.frames > FRAMES || table.len() != board.frames as usize {
+        return Some((3, 0));
+    }
+    if board.domains == 0 || board.domains as usize > DOMAINS {
+        return Some((4, 0));
+    }
+    let all = (0..board.colours).map(|c| 1 << c).sum();
+    let grant = |d: u32| board.grants[d as usize];
+    let active = |d: u32| board.active[d as usize];
+    let domains = || 0..board.domains;
+    let shared = |d: &u32| domains().any(|e| e != *d && grant(e) & grant(*d) != 0);
+    if let Some(row) = domains().find(|d| unfit(grant(*d), all)) {
+        return Some((5, row));
+    }
+    if let Some(row) = domains().find(shared) {
+        return Some((6, row));
+    }
+    let row = domains().find(|d| unfit(active(*d), grant(*d)))?;
+    Some((7, row))
+}
+
+/// Refusals 2 to 8.
+fn refused_caller(board: &Board, table: &[u16], domain: u32) -> Option<Reply<Answer>> {
+    if let Some((number, row)) = refused_board(board, table) {
+        return Some(Reply::Refused { number, row });
+    }
+    (domain >= board.domains).then_some(Reply::refused(8))
+}
+
+/// Refusals 2 to 8 and 10.
+fn refused_page(board: &Board, table: &[u16], domain: u32, page: u32) -> Option<Reply<Answer>> {
+    refused_caller(board, table, domain).or((page >= PAGES).then_some(Reply::refused(10)))
+}
+
+/// The lowest frame with the domain's word for the page, whatever its colour.
+fn mapped(table: &[u16], domain: u32, page: u32) -> Option<usize> {
+    table
+        .iter()
+        .position(|held| u64::from(*held) == word(domain, page))
+}
+
+/// The free frames with a colour in the set, ascending.
+fn free_frames(board: &Board, table: &[u16], set: u32) -> Vec<usize> {
+    (0..table.len())
+        .filter(|frame| table[*frame] == FREE && has(set, *frame as u32 % board.colours))
+        .collect()
+}
+
+pub fn look(board: &Board, table: &[u16], domain: u32, page: u32) -> Reply<Answer> {
+    if let Some(refusal) = refused_page(board, table, domain, page) {
+        return refusal;
+    }
+    match mapped(table, domain, page) {
+        Some(frame) => Reply::Answer(Answer::Mapped(frame)),
+        None => Reply::Answer(Answer::Unmapped),
+    }
+}
+
+pub fn fault(board: &Board, table: &mut [u16], domain: u32, page: u32) -> Reply<Answer> {
+    if let Some(refusal) = refused_page(board, table, domain, page) {
+        return refusal;
+    }
+    if let Some(frame) = mapped(table, domain, page) {
+        return Reply::Answer(Answer::Old(frame));
+    }
+    match free_frames(board, table, board.active[domain as usize]).first() {
+        None => Reply::refused(12),
+        Some(frame) => {
+            table[*frame] = word(domain, page) as u16;
+            Reply::Answer(Answer::New(*frame))
+        }
+    }
+}
+
+pub fn release(board: &Board, table: &mut [u16], domain: u32, page: u32) -> Reply<Answer> {
+    if let Some(refusal) = refused_page(board, table, domain, page) {
+        return refusal;
+    }
+    match mapped(table, domain, page) {
+        None => Reply::refused(14),
+        Some(frame) => {
+            table[frame] = FREE;
+            Reply::Answer(Answer::Freed(frame))
+        }
+    }
+}
+
+pub fn colours(board: &Board, table: &[u16], domain: u32) -> Reply<Answer> {
+    match refused_caller(board, table, domain) {
+        Some(refusal) => refusal,
+        None => Reply::Answer(Answer::Active(board.active[domain as usize])),
+    }
+}
+
+pub fn recolour(
+    board: &mut Board,
+    table: &mut [u16],
+    domain: u32,
+    set: u32,
+    moves: &mut [u16],
+) -> Reply<Answer> {
+    if let Some(refusal) = refused_caller(board, table, domain) {
+        return refusal;
+    }
+    if unfit(set, board.grants[domain as usize]) {
+        return Reply::refused(9);
+    }
+    // both lists are of the table before any move, so no frame vacated here becomes a target
+    let leaving: Vec<(usize, u16)> = (0..table.len())
+        .filter(|frame| !has(set, *frame as u32 % board.colours))
+        .filter_map(|frame| Some((frame, page_held(domain, table[frame])?)))
+        .collect();
+    let free = free_frames(board, table, set);
+    if leaving.len() > free.len() {
+        return Reply::refused(12);
+    }
+    if moves.len() < 3 * leaving.len() {
+        return Reply::refused(13);
+    }
+    for (place, ((old, page), new)) in leaving.iter().zip(free).enumerate() {
+        table[new] = table[*old];
+        table[*old] = FREE;
+        moves[3 * place..][..3].copy_from_slice(&[*page, *old as u16, new as u16]);
+    }
+    board.active[domain as usize] = set;
+    Reply::Answer(Answer::Moved(leaving.len()))
+}
+
+/// One of the five calls with its arguments. `room` is the length of the lent move list.
+#[derive(Clone, Copy, Debug, PartialEq, Eq)]
+pub enum Call {
+    Look { domain: u32, page: u32 },
+    Fault { domain: u32, page: u32 },
+    Release { domain: u32, page: u32 },
+    Colours { domain: u32 },
+    Recolour { domain: u32, set: u32, room: usize },
+}
+
+impl Call {
+    pub fn domain(&self) -> u32 {
+        match *self {
+            Call::Look { domain, .. }
+            | Call::Fault { domain, .. }
+            | Call::Release { domain, .. }
+            | Call::Colours { domain }
+            | Call::Recolour { domain, .. } => domain,
+        }
+    }
+
+    pub fn room(&self) -> usize {
+        match *self {
+            Call::Recolour { room, .. } => room,
+            _ => 0,
+        }
+    }
+}
+
+/// What each call of a history leaves to the next.
+#[derive(Clone, Debug, PartialEq, Eq)]
+pub struct State {
+    pub board: Board,
+    pub table: Vec<u16>,
+}
+
+impl State {
+    /// The call's answer; `moves` is the move list it is lent.
+    pub fn call(&mut self, call: &Call, moves: &mut [u16]) -> Reply<Answer> {
+        let State { board, table } = self;
+        match *call {
+            Call::Look { domain, page } => look(board, table, domain, page),
+            Call::Fault { domain, page } => fault(board, table, domain, page),
+            Call::Release { domain, page } => release(board, table, domain, page),
+            Call::Colours { domain } => colours(board, table, domain),
+            Call::Recolour { domain, set, .. } => recolour(board, table, domain, set, moves),
+        }
+    }
+}
+
+#[cfg(test)]
+mod tests {
+    use super::*;
+
+    fn recorder() -> State {
+        let mut grants = [0; DOMAINS];
+        grants[..2].copy_from_slice(&[0x3, 0xC]);
+        let board = Board {
+            colours: 4,
+            frames: 8,
+            domains: 2,
+            grants,
+            active: grants,
+        };
+        let table = vec![FREE; 8];
+        State { board, table }
+    }
+
+    #[test]
+    fn example_m_of_document_01() {
+        let State {
+            mut board,
+            mut table,
+        } = recorder();
+        let new = |frame| Reply::Answer(Answer::New(frame));
+        assert_eq!(fault(&board, &mut table, 0, 9), new(0));
+        assert_eq!(fault(&board, &mut table, 1, 0), new(2));
+        assert_eq!(fault(&board, &mut table, 0, 1), new(1));
+        let mut moves = [7; 5];
+        assert_eq!(
+            recolour(&mut board, &mut table, 0, 0x1, &mut moves),
+            Reply::Answer(Answer::Moved(1))
+        );
+        assert_eq!(moves, [1, 1, 4, 7, 7]);
+        assert_eq!(table, [10, 0, 4097, 0, 2, 0, 0, 0]);
+        assert_eq!(board.active[..2], [0x1, 0xC]);
+        assert_eq!(fault(&board, &mut table, 0, 2), Reply::refused(12));
+        assert_eq!(table, [10, 0, 4097, 0, 2, 0, 0, 0]);
+    }
+
+    #[test]
+    fn example_of_the_limits() {
+        let State {
+            mut board,
+            mut table,
+        } = recorder();
+        assert_eq!(
+            look(&board, &table, 0, 4095),
+            Reply::Answer(Answer::Unmapped)
+        );
+        assert_eq!(look(&board, &table, 0, 4096), Reply::refused(10));
+        let none = recolour(&mut board, &mut table, 0, 0x2, &mut []);
+        assert_eq!(none, Reply::Answer(Answer::Moved(0)));
+        assert_eq!(board.active[0], 0x2);
+        assert_eq!(
+            fault(&board, &mut table, 0, 4095),
+            Reply::Answer(Answer::New(1))
+        );
+        assert_eq!(
+            look(&board, &table, 0, 4095),
+            Reply::Answer(Answer::Mapped(1))
+        );
+        let before = (board.clone(), table.clone());
+        let short = recolour(&mut board, &mut table, 0, 0x1, &mut [0; 2]);
+        assert_eq!(short, Reply::refused(13));
+        assert_eq!((board, table), before);
+    }
+
+    /// Any content: duplicates and frames outside the grant move, a reserved frame is no target, and a
+    /// frame that is vacated is not taken again.
+    #[test]
+    fn recolouring_any_table() {
+        let State { mut board, .. } = recorder();
+        let mut table = vec![RESERVED, 6, 6, 4098, 0, 0, 0, 0];
+        let mut moves = [0; 6];
+        assert_eq!(
+            recolour(&mut board, &mut table, 0, 0x1, &mut moves),
+            Reply::refused(12)
+        );
+        table[0] = FREE;
+        assert_eq!(
+            recolour(&mut board, &mut table, 0, 0x1, &mut moves),
+            Reply::Answer(Answer::Moved(2))
+        );
+        assert_eq!(moves, [5, 1, 0, 5, 2, 4]);
+        assert_eq!(table, [6, 0, 0, 4098, 6, 0, 0, 0]);
+    }
+
+    /// 4,096 × 2^20 is 0 in 32 bits: the domain 2^20 must not be taken for domain 0, nor page 4,096 of
+    /// domain 0 for page 0 of domain 1.
+    #[test]
+    fn large_numbers_do_not_wrap() {
+        let State { board, mut table } = recorder();
+        table[2] = 4097;
+        assert_eq!(look(&board, &table, 1 << 20, 0), Reply::refused(8));
+        assert_eq!(
+            fault(&board, &mut table, 0, PAGES),
+            Reply::<Answer>::refused(10)
+        );
+        assert_eq!(
+            release(&board, &mut table, u32::MAX, u32::MAX),
+            Reply::refused(8)
+        );
+        assert_eq!(page_held(0, 4097), None);
+        assert_eq!(page_held(1, 4097), Some(0));
+        assert_eq!(page_held(1 << 20, 1), None);
+        assert_eq!(page_held(0, 0), None);
+    }
+
+    /// Every number of 2 to 7 before the next, over all domains; the lower of two that share.
+    #[test]
+    fn board_refusals_in_order() {
+        let State {
+            mut board,
+            mut table,
+        } = recorder();
+        board.domains = 4;
+        board.grants[..4].copy_from_slice(&[0x1, 0x2, 0x12, 0x2]);
+        board.active[..4].copy_from_slice(&[0, 0x2, 0x2, 0x2]);
+        assert_eq!(refused_board(&board, &table), Some((5, 2)));
+        board.grants[2] = 0x4;
+        assert_eq!(refused_board(&board, &table), Some((6, 1)));
+        board.grants[3] = 0x8;
+        assert_eq!(refused_board(&board, &table), Some((7, 0)));
+        board.active[..4].copy_from_slice(&[0x1, 0x2, 0x4, 0x2]);
+        assert_eq!(refused_board(&board, &table), Some((7, 3)));
+        board.domains = 3;
+        assert_eq!(refused_board(&board, &table), None);
+        assert_eq!(colours(&board, &table, 3), Reply::refused(8));
+        board.domains = 9;
+        assert_eq!(refused_board(&board, &table), Some((4, 0)));
+        table.push(FREE);
+        assert_eq!(refused_board(&board, &table), Some((3, 0)));
+        board.colours = 3;
+        assert_eq!(refused_board(&board, &table), Some((2, 0)));
+    }
+}

@@ -1,0 +1,393 @@
+//! The domain rule, run on random histories: document 01, "The words of demand 3". Two histories that
+//! leave a domain the same colours and map, its own calls replayed alone, must give it the same answers
+//! ever after, whatever the others do; two that do not are told apart by one call.
+
+use crate::boards::{accepted, any_domain, any_page, any_set, empty_table, part_of};
+use crate::frames::{Answer, Call, State, FREE, PAGES, RESERVED};
+use crate::random::Random;
+use crate::reply::Reply;
+
+/// What a call answers its domain, with the moves in ascending order, since theirs is left open.
+#[derive(Clone, Debug, PartialEq, Eq)]
+struct Answered {
+    reply: Reply<Answer>,
+    moves: Vec<[u16; 3]>,
+}
+
+/// How calls run: as in the model, or in a test as in a loader that does wrong.
+type Step = fn(&mut State, &Call) -> Answered;
+
+fn step(state: &mut State, call: &Call) -> Answered {
+    let mut list = vec![0; call.room()];
+    let reply = state.call(call, &mut list);
+    let count = match reply {
+        Reply::Answer(Answer::Moved(count)) => count,
+        _ => 0,
+    };
+    let triples = list.chunks_exact(3).take(count);
+    let mut moves: Vec<[u16; 3]> = triples.map(|t| [t[0], t[1], t[2]]).collect();
+    moves.sort();
+    Answered { reply, moves }
+}
+
+#[derive(Clone, Copy, Debug, Default)]
+pub struct Tally {
+    pub histories: u32,
+    /// Pairs of histories, for one domain, with the same colours and map.
+    pub equal: u32,
+    /// Those among them whose own calls are not the same.
+    pub equal_by_other_calls: u32,
+    pub unequal: u32,
+    pub violations: u32,
+}
+
+impl Tally {
+    /// No violation, and enough of each kind that this says something.
+    pub fn good(&self) -> bool {
+        let tenth = self.histories / 10;
+        let enough = self.equal > tenth
+            && self.unequal > tenth
+            && self.equal_by_other_calls > self.histories / 50;
+        enough && self.violations == 0
+    }
+
+    /// Counts a violation, and prints the first.
+    fn violation(&mut self, what: impl Fn() -> String) {
+        if self.violations == 0 {
+            println!("{}", what());
+        }
+        self.violations += 1;
+    }
+
+    pub fn report(&self) {
+        println!(
+            "{} histories, {} equal, {} unequal, {} violations",
+            self.histories, self.equal, self.unequal, self.violations
+        );
+        println!(
+            "of the equal ones, {} by other calls of the domain itself",
+            self.equal_by_other_calls
+        );
+    }
+}
+
+/// Checks pairs of random histories.
+pub fn check(seed: u64, pairs: u32) -> Tally {
+    check_step(seed, pairs, step)
+}
+
+fn check_step(seed: u64, pairs: u32, step: Step) -> Tally {
+    let mut random = Random::new(seed);
+    let mut tally = Tally::default();
+    for _ in 0..pairs {
+        let trial = Trial::new(&mut random, step);
+        let h = trial.history(&mut random);
+        let k = trial.changed(&mut random, &h);
+        tally.histories += 2;
+        for history in [&h, &k] {
+            if !trial.kept(&trial.run(&trial.start, history).0) {
+                tally.violation(|| format!("not kept: {:?} {history:?}", trial.start));
+            }
+        }
+        for domain in 0..trial.start.board.domains {
+            trial.compare(&mut random, &mut tally, domain, &h, &k);
+        }
+    }
+    tally
+}
+
+fn own(history: &[Call], domain: u32) -> Vec<Call> {
+    let named = history.iter().filter(|call| call.domain() == domain);
+    named.copied().collect()
+}
+
+/// An accepted board, an empty table and a few pages that calls name again and again.
+struct Trial {
+    start: State,
+    pages: Vec<u32>,
+    step: Step,
+}
+
+impl Trial {
+    fn new(random: &mut Random, step: Step) -> Self {
+        let n = random.pick(&[1, 2, 4, 4, 8, 8, 8, 16]);
+        // seldom one domain alone, where there is nothing to keep apart
+        let domains = random.pick(&[1, 2, 2, 2, 3, 3, 4, 8]).min(n) as u32;
+        let frames = 1 + random.below(6 * n) as u32;
+        let board = accepted(random, n as u32, frames, domains);
+        let table = empty_table(random, frames);
+        let mut pages = vec![random.pick(&[0, PAGES - 1])];
+        for _ in 0..1 + random.below(4) {
+            pages.push(random.below(PAGES.into()) as u32);
+        }
+        Trial {
+            start: State { board, table },
+            pages,
+            step,
+        }
+    }
+
+    /// The state after the history, and what each call was answered.
+    fn run(&self, from: &State, history: &[Call]) -> (State, Vec<Answered>) {
+        let mut state = from.clone();
+        let answers = history
+            .iter()
+            .map(|call| (self.step)(&mut state, call))
+            .collect();
+        (state, answers)
+    }
+
+    /// What the domain's own calls of a later list are answered.
+    fn answers(&self, from: &State, later: &[Call], domain: u32) -> Vec<Answered> {
+        let (_, answers) = self.run(from, later);
+        let all = later.iter().zip(answers);
+        all.filter(|(call, _)| call.domain() == domain)
+            .map(|(_, answered)| answered)
+            .collect()
+    }
+
+    /// Colours, then look for each page that calls name and for some others: the colours and map.
+    fn probes(&self, random: &mut Random, domain: u32, named: &[Call]) -> Vec<Call> {
+        let mut pages = self.pages.clone();
+        pages.extend([0, 1, PAGES - 2, PAGES - 1]);
+        pages.extend((0..4).map(|_| random.below(PAGES.into()) as u32));
+        for call in named {
+            if let Call::Fault { page, .. } | Call::Release { page, .. } = *call {
+                pages.push(page % PAGES);
+            }
+        }
+        pages.sort();
+        pages.dedup();
+        let looks = pages.into_iter().map(|page| Call::Look { domain, page });
+        std::iter::once(Call::Colours { domain })
+            .chain(looks)
+            .collect()
+    }
+
+    /// The domain rule for one domain and two histories.
+    fn compare(&self, random: &mut Random, tally: &mut Tally, domain: u32, h: &[Call], k: &[Call]) {
+        let (own_h, own_k) = (own(h, domain), own(k, domain));
+        let probes = self.probes(random, domain, &[h, k].concat());
+        let seen_after = |calls: &[Call]| {
+            let (state, _) = self.run(&self.start, calls);
+            self.answers(&state, &probes, domain)
+        };
+        let (after_h, _) = self.run(&self.start, h);
+        let (after_k, _) = self.run(&self.start, k);
+        let good = if seen_after(&own_h) == seen_after(&own_k) {
+            tally.equal += 1;
+            tally.equal_by_other_calls += u32::from(own_h != own_k);
+            (0..3).all(|_| self.same_later(random, domain, &after_h, &after_k))
+        } else {
+            tally.unequal += 1;
+            probes.iter().any(|probe| {
+                let later = std::slice::from_ref(probe);
+                self.answers(&after_h, later, domain) != self.answers(&after_k, later, domain)
+            })
+        };
+        if !good {
+            tally.violation(|| format!("domain {domain}: {:?} {h:?} {k:?}", self.start));
+        }
+    }
+
+    /// Whether two later lists with the same own calls, and others' calls drawn for each apart, give the
+    /// domain the same answers.
+    fn same_later(&self, random: &mut Random, domain: u32, h: &State, k: &State) -> bool {
+        let calls = (0..1 + random.below(8)).map(|_| self.call_of(random, domain));
+        let calls: Vec<Call> = calls.collect();
+        let l = self.woven(random, domain, &calls);
+        let m = self.woven(random, domain, &calls);
+        let kept = [(h, &l), (k, &m)]
+            .into_iter()
+            .all(|(from, later)| self.kept(&self.run(from, later).0));
+        kept && self.answers(h, &l, domain) == self.answers(k, &m, domain)
+    }
+
+    /// What no history changes: no two domains hold frames of one colour, words reserved at the start
+    /// and no others are reserved, and no page of a domain has two frames.
+    fn kept(&self, state: &State) -> bool {
+        let n = state.board.colours as usize;
+        let mut holders = vec![None; n];
+        let mut words = std::collections::BTreeSet::new();
+        for (frame, held) in state.table.iter().copied().enumerate() {
+            let reserved = self.start.table[frame] == RESERVED;
+            if reserved != (held == RESERVED) {
+                return false;
+            }
+            if held == FREE || reserved {
+                continue;
+            }
+            let holder = Some((u32::from(held) - 1) / PAGES);
+            let colour = frame % n;
+            if !words.insert(held) || holders[colour].is_some() && holders[colour] != holder {
+                return false;
+            }
+            holders[colour] = holder;
+        }
+        true
+    }
+
+    fn call_of(&self, random: &mut Random, domain: u32) -> Call {
+        let page = any_page(random, &self.pages);
+        let grants = self.start.board.grants;
+        let grant = grants.get(domain as usize).unwrap_or(&1);
+        let set = match random.below(3) {
+            0 => any_set(random, *grant),
+            _ => part_of(random, *grant),
+        };
+        let room = random.pick(&[0, 2, 3, 5, 6, 9, 30, 30]);
+        match random.below(12) {
+            0 => Call::Look { domain, page },
+            1..=6 => Call::Fault { domain, page },
+            7 | 8 => Call::Release { domain, page },
+            9 => Call::Colours { domain },
+            _ => Call::Recolour { domain, set, room },
+        }
+    }
+
+    fn any_call(&self, random: &mut Random) -> Call {
+        let domain = any_domain(random, self.start.board.domains);
+        self.call_of(random, domain)
+    }
+
+    /// A call that names any other number.
+    fn other_call(&self, random: &mut Random, domain: u32) -> Call {
+        let other = match any_domain(random, self.start.board.domains) {
+            same if same == domain => self.start.board.domains,
+            other => other,
+        };
+        self.call_of(random, other)
+    }
+
+    fn history(&self, random: &mut Random) -> Vec<Call> {
+        let length = random.below(4 + 6 * u64::from(self.start.board.domains));
+        (0..length).map(|_| self.any_call(random)).collect()
+    }
+
+    /// The own calls in their order, with new calls of the others anywhere among them.
+    fn woven(&self, random: &mut Random, domain: u32, calls: &[Call]) -> Vec<Call> {
+        let mut all = Vec::new();
+        for place in 0..=calls.len() {
+            while random.below(2) == 0 {
+                all.push(self.other_call(random, domain));
+            }
+            all.extend(calls.get(place));
+        }
+        all
+    }
+
+    /// Another history made from this one, so that for some domain both often come to the same.
+    fn changed(&self, random: &mut Random, history: &[Call]) -> Vec<Call> {
+        let domain = random.below(self.start.board.domains.into()) as u32;
+        let mut calls = own(history, domain);
+        let place = random.below(calls.len() as u64 + 1) as usize;
+        match random.below(8) {
+            0 => return self.history(random),
+            1 => {
+                // the others' calls of this history, in other places and some left out
+                let mut all: Vec<Call> = history
+                    .iter()
+                    .filter(|call| call.domain() == domain || random.below(3) > 0)
+                    .copied()
+                    .collect();
+                random.shuffle(&mut all);
+                let places = all.iter_mut().filter(|call| call.domain() == domain);
+                for (place, call) in places.zip(calls) {
+                    *place = call;
+                }
+                return all;
+            }
+            2 => calls.insert(place, self.call_of(random, domain)),
+            3 if place < calls.len() => {
+                calls.remove(place);
+            }
+            4 if place < calls.len() => calls[place] = self.call_of(random, domain),
+            5 if place + 1 < calls.len() => calls.swap(place, place + 1),
+            6 => {
+                let page = random.pick(&self.pages);
+                calls.insert(place, Call::Fault { domain, page });
+                calls.insert(place + 1, Call::Release { domain, page });
+            }
+            _ => {}
+        }
+        self.woven(random, domain, &calls)
+    }
+}
+
+#[cfg(test)]
+mod tests {
+    use super::*;
+
+    #[test]
+    fn the_rule_holds_of_the_model() {
+        let tally = check(crate::SEED, 400);
+        assert!(tally.good(), "{tally:?}");
+    }
+
+    /// A loader that takes the lowest free frame of any colour.
+    fn ignores_colours(state: &mut State, call: &Call) -> Answered {
+        let lowest = state.table.iter().position(|held| *held == FREE);
+        let mut answered = step(state, call);
+        if let (Reply::Answer(Answer::New(frame)), Some(lowest)) = (&mut answered.reply, lowest) {
+            state.table.swap(*frame, lowest);
+            *frame = lowest;
+        }
+        answered
+    }
+
+    /// A loader that chooses frames by a pointer common to all domains.
+    fn common_pointer(state: &mut State, call: &Call) -> Answered {
+        let pointer = state.table.iter().filter(|held| **held != FREE).count();
+        let mut answered = step(state, call);
+        if let Reply::Answer(Answer::New(frame)) = &mut answered.reply {
+            let active = state.board.active[call.domain() as usize];
+            let fits = |f: &usize| active >> (f % state.board.colours as usize) & 1 == 1;
+            let chosen = (pointer..state.table.len())
+                .find(|f| state.table[*f] == FREE && fits(f))
+                .unwrap_or(*frame);
+            state.table.swap(*frame, chosen);
+            *frame = chosen;
+        }
+        answered
+    }
+
+    /// A loader that refuses everything once two domains hold frames.
+    fn refuses_beside_others(state: &mut State, call: &Call) -> Answered {
+        let held = |word: &&u16| **word != FREE && **word != RESERVED;
+        let mut holders = state
+            .table
+            .iter()
+            .filter(held)
+            .map(|word| (word - 1) / 4096);
+        let first = holders.next();
+        if holders.any(|holder| Some(holder) != first) {
+            return Answered {
+                reply: Reply::refused(12),
+                moves: Vec::new(),
+            };
+        }
+        step(state, call)
+    }
+
+    /// A loader that tells each domain how many frames are free, as the row of refusal 12.
+    fn tells_free_frames(state: &mut State, call: &Call) -> Answered {
+        let mut answered = step(state, call);
+        if let Reply::Refused { number: 12, row } = &mut answered.reply {
+            *row = state.table.iter().filter(|word| **word == FREE).count() as u32;
+        }
+        answered
+    }
+
+    #[test]
+    fn wrong_loaders_are_found() {
+        for wrong in [
+            ignores_colours as Step,
+            common_pointer,
+            refuses_beside_others,
+            tells_free_frames,
+        ] {
+            let tally = check_step(crate::SEED, 400, wrong);
+            assert!(tally.violations > 20, "{tally:?}");
+        }
+    }
+}
