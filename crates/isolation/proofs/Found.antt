@@ -17,6 +17,7 @@ use Rattle.colours.specs.Sets.{has}
 use Rattle.board.specs.declared.Board.{Board}
 use Rattle.board.specs.Tests.{grant}
 use Rattle.calls.specs.Table.{State, stateOf, word, wordOf, isOf, inSet, framesWith, mappedTo, choices, strays}
+use Rattle.calls.proofs.Choice.{Chosen, chosen, choice-local}
 use Rattle.isolation.proofs.Accepted.{over, facts}
 use Rattle.isolation.proofs.Invariant.{granted, Held, Inv, Mine}
 
@@ -65,13 +66,9 @@ module _ (b : Board) (t₀ : List ℕ) where
         (mappedTo (at a t) e p) (kept (λ (x : ℕ). eqb (word t x) (wordOf e p)) (b .frames))
 
     pub choices-mine : (c : ℕ) → Inside b e c → Each (Mine b t₀ e) (choices (at a t) c)
-    unfolding choices framesWith
     choices-mine c inside =
-        each-map (λ (x : ℕ). (x < b .frames) × ((eqb (word t x) 0 && inSet b c x) ≡ true)) (Mine b t₀ e)
-        (λ x r.
-        let both = and-both (eqb (word t x) 0) (inSet b c x) (r .1) in
-        free-frame x (r .0) (eqb-true (word t x) 0 (both .0)) (inside (x % b .colours) (both .1)))
-        (choices (at a t) c) (kept (λ (x : ℕ). eqb (word t x) 0 && inSet b c x) (b .frames))
+        each-map (Chosen (at a t) c) (Mine b t₀ e) (λ x k. free-frame x (k .below) (k .free) (inside (x % b .colours) (k .inside)))
+        (choices (at a t) c) (chosen (at a t) c)
 
     pub strays-mine : (c : ℕ) → Each (Mine b t₀ e) (strays (at a t) e c)
     unfolding strays framesWith
@@ -110,13 +107,8 @@ module _ (b : Board) (t₀ : List ℕ) where
         (λ g. not-mapped inv below x p h small g ∙ sym (not-mapped inv′ below x p h small g)))
 
     pub same-choices : (c : ℕ) → Inside b d c → choices (at a t) c ≡ choices (at a′ u) c
-    unfolding choices framesWith
     same-choices c inside =
-        same-kept (λ (x : ℕ). eqb (word t x) 0 && inSet b c x) (λ (x : ℕ). eqb (word u x) 0 && inSet b c x) (b .frames)
-        (λ x h.
-        cases (inSet b c x)
-        (λ k. ap (λ (w : ℕ). eqb w 0 && inSet b c x) (same x h (inside (x % b .colours) k)))
-        (λ k. rw k (and-false (eqb (word t x) 0) ∙ sym (and-false (eqb (word u x) 0)))))
+        choice-local (at a t) (at a′ u) c refl refl (λ x h k. same x h (inside (x % b .colours) k))
 
     pub same-strays : (c : ℕ) → strays (at a t) d c ≡ strays (at a′ u) d c
     unfolding strays framesWith

@@ -1,0 +1,2 @@
+-- The laws of the choice of a free frame.
+pub mod Choice
