@@ -5,6 +5,10 @@ use mathlib.Core.Bool.{Bool, true, false, _&&_}
 use mathlib.Core.List.{List, [], _∷_}
 use lib.Dec.{eqb}
 use Rattle.refusal.specs.Reply.{Reply, Answers, Refuses}
+use Rattle.calls.specs.Table.{State}
+use Rattle.calls.specs.Calls.{Answer, Mapped, Unmapped, Old, New, Freed, Active, Moved, Move}
+use Rattle.calls.specs.Moves.{triples}
+use Rattle.isolation.specs.DomainRule.{Call, outcome, run}
 use Rattle.colours.specs.Cache.{cacheReply}
 use Rattle.colours.specs.Pages.{layoutReply, bleachReply, dropBits, equationOne}
 
@@ -19,6 +23,11 @@ pub data Example : Type 0 where
   Drop : ℕ → ℕ → ℕ → ℕ → Example
   -- C, C_l, C_h, base B and page A of equation (1) in document 004: the bleached page
   Equation : ℕ → ℕ → ℕ → ℕ → ℕ → ℕ → Example
+  -- a start, a history and a call after it: the reply
+  Reply-after : State → List Call → Call → Reply Answer → Example
+  -- a start and a history: the moves of its last call, and the table that it leaves
+  Moves-of : State → List Call → Call → List Move → Example
+  Table-after : State → List Call → List ℕ → Example
 
 unfoldable pub sameReply : Reply ℕ → Reply ℕ → Bool
 sameReply (Answers a) (Answers b) = eqb a b
@@ -26,12 +35,33 @@ sameReply (Answers a) (Refuses m q) = false
 sameReply (Refuses n r) (Answers b) = false
 sameReply (Refuses n r) (Refuses m q) = eqb n m && eqb r q
 
+-- two lists of numbers, word by word
+unfoldable pub sameList : List ℕ → List ℕ → Bool
+sameList [] [] = true
+sameList [] (y ∷ ys) = false
+sameList (x ∷ xs) [] = false
+sameList (x ∷ xs) (y ∷ ys) = eqb x y && sameList xs ys
+
+-- a reply of the five calls as numbers: which answer it is, and its number
+unfoldable pub numbers : Reply Answer → List ℕ
+numbers (Answers (Mapped f)) = 1 ∷ f ∷ []
+numbers (Answers Unmapped) = 2 ∷ []
+numbers (Answers (Old f)) = 3 ∷ f ∷ []
+numbers (Answers (New f)) = 4 ∷ f ∷ []
+numbers (Answers (Freed f)) = 5 ∷ f ∷ []
+numbers (Answers (Active s)) = 6 ∷ s ∷ []
+numbers (Answers (Moved n)) = 7 ∷ n ∷ []
+numbers (Refuses n r) = 0 ∷ n ∷ r ∷ []
+
 unfoldable pub holds : Example → Bool
 holds (Cache b w r) = sameReply (cacheReply b w) r
 holds (Layout n s i r) = sameReply (layoutReply n s i) r
 holds (Bleach n s p r) = sameReply (bleachReply n s p) r
 holds (Drop m k p q) = eqb (dropBits m k p) q
 holds (Equation c l h b a q) = eqb (equationOne c l h b a) q
+holds (Reply-after s h c r) = sameList (numbers (outcome (run s h) c .reply)) (numbers r)
+holds (Moves-of s h c ms) = sameList (triples (outcome (run s h) c .moves)) (triples ms)
+holds (Table-after s h t) = sameList (run s h .table) t
 
 unfoldable pub allHold : List Example → Bool
 allHold [] = true

@@ -1,7 +1,28 @@
 -- The examples of document 01 that are marked m, in its order, and then the worked examples of document 004. Later parts add theirs.
+use Prim.Native.Nat.{ℕ}
 use mathlib.Core.List.{List, [], _∷_}
 use Rattle.refusal.specs.Reply.{Answers, Refuses}
-use Rattle.examples.specs.Example.{Example, Cache, Layout, Bleach, Drop, Equation}
+use Rattle.calls.specs.Table.{State}
+use Rattle.calls.specs.Calls.{New, Moved}
+use Rattle.isolation.specs.DomainRule.{Call, Fault, Recolour}
+use Rattle.examples.specs.Example.{Example, Cache, Layout, Bleach, Drop, Equation, Reply-after, Moves-of, Table-after}
+
+abbrev pub sets : List ℕ
+sets = 0x3 ∷ 0xC ∷ 0 ∷ 0 ∷ 0 ∷ 0 ∷ 0 ∷ 0 ∷ []
+
+-- N 4, F 8, grants 0x3 and 0xC, active alike, empty table of zeros
+abbrev pub recorder : State
+recorder =
+    record {
+      board = record { colours = 4; frames = 8; domains = 2; grants = sets; active = sets };
+      table = 0 ∷ 0 ∷ 0 ∷ 0 ∷ 0 ∷ 0 ∷ 0 ∷ 0 ∷ [];
+    }
+
+abbrev pub three-faults : List Call
+three-faults = Fault 0 9 ∷ Fault 1 0 ∷ Fault 0 1 ∷ []
+
+abbrev pub then-recoloured : List Call
+then-recoloured = Fault 0 9 ∷ Fault 1 0 ∷ Fault 0 1 ∷ Recolour 0 0x1 (0 ∷ 0 ∷ 0 ∷ []) ∷ []
 
 unfoldable pub examples : List Example
 examples =
@@ -12,6 +33,13 @@ examples =
     ∷ Layout 16 0x0005 3 (Answers 18)
     ∷ Bleach 16 0x0005 17 (Refuses 11 0)
     ∷ Bleach 16 0x8000 0x5FFFFF (Answers 0x5FFFF)
+    ∷ Reply-after recorder [] (Fault 0 9) (Answers (New 0))
+    ∷ Reply-after recorder (Fault 0 9 ∷ []) (Fault 1 0) (Answers (New 2))
+    ∷ Reply-after recorder (Fault 0 9 ∷ Fault 1 0 ∷ []) (Fault 0 1) (Answers (New 1))
+    ∷ Reply-after recorder three-faults (Recolour 0 0x1 (0 ∷ 0 ∷ 0 ∷ [])) (Answers (Moved 1))
+    ∷ Moves-of recorder three-faults (Recolour 0 0x1 (0 ∷ 0 ∷ 0 ∷ [])) (record { page = 1; source = 1; target = 4 } ∷ [])
+    ∷ Table-after recorder then-recoloured (10 ∷ 0 ∷ 4097 ∷ 0 ∷ 2 ∷ 0 ∷ 0 ∷ 0 ∷ [])
+    ∷ Reply-after recorder then-recoloured (Fault 0 2) (Refuses 12 0)
     -- 004: the pages of [2, 3], of which 0x22 is the fifth; equation (1) with its factor mended says so
     ∷ Layout 16 0x000C 0 (Answers 0x02)
     ∷ Layout 16 0x000C 1 (Answers 0x03)
