@@ -1,0 +1,58 @@
+// The hash by which lists of words are compared: h becomes (16,777,619 h + word) modulo 2^32 at each
+// word, from 0 on.
+ghost use Prim.Native.Nat.{_<_, _≤_, _*_};
+ghost use lib.ListN.{length};
+use board::Board;
+
+pub fn step(h: u64, word: u32) -> u64
+    requires { ⌜ h < 4294967296 ⌝ }
+    ensures { λ r. ⌜ r < 4294967296 ⌝ }
+{
+    (h * 16777619 + word as u64) % 4294967296
+}
+
+pub fn words(list: &[u16]) -> u64
+    ensures { λ r. ⌜ r < 4294967296 ⌝ }
+{
+    let mut h = 0;
+    let mut i = 0;
+    while i < list.len() {
+        h = step(h, list[i] as u32);
+        i += 1;
+    }
+    h
+}
+
+fn eight(first: u64, list: [u32; 8]) -> u64
+    requires { ⌜ first < 4294967296 ⌝ }
+    ensures { λ r. ⌜ r < 4294967296 ⌝ }
+{
+    let mut h = first;
+    let mut i = 0;
+    while i < 8 {
+        h = step(h, list[i]);
+        i += 1;
+    }
+    h
+}
+
+pub fn board(b: Board) -> u64 {
+    let numbers = step(step(step(0, b.colours), b.frames), b.domains);
+    let grants = b.grants;
+    let active = b.active;
+    eight(eight(numbers, grants), active)
+}
+
+// The sum over the triples of the hash of each.
+pub fn triples(list: &[u16], count: usize) -> u64
+    requires { ⌜ (count ≤ 4400) × (3 * count ≤ length (now list)) ⌝ }
+{
+    let mut sum: u64 = 0;
+    let mut i = 0;
+    while i < count {
+        let at = 3 * i;
+        sum += step(step(step(0, list[at] as u32), list[at + 1] as u32), list[at + 2] as u32);
+        i += 1;
+    }
+    sum
+}
