@@ -1,8 +1,5 @@
 // The board by value, and refusals 2 to 8: document 01, "Board and frame table". check_board tests a
 // board alone or with a frame table of so many words, check_call a call of a domain too.
-ghost use mathlib.Core.Path.{_≡_};
-ghost use Rattle.board.specs.Tests.{boardReply, callReply};
-ghost use Rattle.board.specs.Paper.{paperChecked};
 use refusal::Refusal;
 
 // N, F, the domain count, and a grant and an active set for each domain. Fields of domains at or

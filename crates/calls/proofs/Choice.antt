@@ -1,7 +1,7 @@
 -- The choice of free frames, by three laws: each is free, each has a colour in the set, and the choice depends on the frames with a colour
 -- in the set alone. No pointer or other state that domains have in common can meet the third.
 use Prim.Native.Nat.{ℕ, _<_}
-use mathlib.Core.Bool.{true, false, _&&_, and-false}
+use mathlib.Core.Bool.{true, _&&_, and-false}
 use mathlib.Core.Path.{_≡_, sym, ap, _∙_}
 use lib.Dec.{eqb}
 use borrow.Author.Tests.{eqb-true}

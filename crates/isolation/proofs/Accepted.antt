@@ -1,19 +1,19 @@
 -- What an accepted board has: its table's length and its domain count, grants that share no colour, active sets inside their grants. And
 -- which other active sets leave it accepted.
 use Prim.Native.Nat.{ℕ, zero, suc, _+_, _<_, _≤_}
-use native.Mathlib.Nat.{not-suc-le-zero, le-refl, zero-add, eq-or-lt-of-le, lt-irrefl}
+use native.Mathlib.Nat.{le-refl, eq-or-lt-of-le, lt-irrefl}
 use native.Mathlib.Omega.{arith}
 use mathlib.Core.Bool.{Bool, true, false, not, _&&_, _||_}
 use mathlib.Core.List.{List, [], _∷_, _++_, map}
 use mathlib.Core.Logic.{⊎-elim}
-use mathlib.Core.Path.{_≡_, refl, sym, ap, _∙_}
+use mathlib.Core.Path.{_≡_, refl, sym, _∙_}
 use lib.Bits.{bitAnd}
 use lib.Dec.{eqb, ltb}
-use lib.ListN.{length, getD, set}
-use borrow.Author.Tests.{eqb-true, eqb-false, ltb-false, not-true, not-false, ne-eqb}
+use lib.ListN.{getD}
+use borrow.Author.Tests.{eqb-true, eqb-false, ltb-false, not-false}
 use Rattle.lists.specs.Range.{from, upto, any}
 use Rattle.lists.proofs.Split.{cases, and-both}
-use Rattle.refusal.specs.Reply.{Test, test, each, passes}
+use Rattle.refusal.specs.Reply.{Test, each, passes}
 use Rattle.refusal.proofs.Replies.{passed-first}
 use Rattle.colours.specs.Sets.{has, isColourSet}
 use Rattle.colours.specs.Cache.{isColourCount}

@@ -1,12 +1,12 @@
 -- The three searches of the calls: what they find a domain may write, and two tables with the same words in the domain's frames give the
 -- same. It knows no call.
-use Prim.Native.Nat.{ℕ, _+_, _-_, _*_, _%_, _<_, _≤_}
+use Prim.Native.Nat.{ℕ, _-_, _%_, _<_, _≤_}
 use native.Mathlib.Nat.{lt-irrefl}
 use native.Mathlib.Omega.{arith}
-use mathlib.Core.Bool.{Bool, true, false, not, _&&_, and-false, true≢false}
-use mathlib.Core.List.{List, [], _∷_}
-use mathlib.Core.Logic.{inl, inr, ⊎-elim}
-use mathlib.Core.Path.{_≡_, refl, sym, ap, ap₂, _∙_}
+use mathlib.Core.Bool.{true, false, not, _&&_, true≢false}
+use mathlib.Core.List.{List}
+use mathlib.Core.Logic.{⊎-elim}
+use mathlib.Core.Path.{_≡_, refl, sym, ap, _∙_}
 use lib.Dec.{eqb, leb}
 use lib.ListN.{length}
 use borrow.Author.Tests.{eqb-true, leb-true}
@@ -19,7 +19,7 @@ use Rattle.board.specs.Tests.{grant}
 use Rattle.calls.specs.Table.{State, stateOf, word, wordOf, isOf, inSet, framesWith, mappedTo, choices, strays}
 use Rattle.calls.proofs.Choice.{Chosen, chosen, choice-local}
 use Rattle.isolation.proofs.Accepted.{over, facts}
-use Rattle.isolation.proofs.Invariant.{granted, Held, Inv, Mine}
+use Rattle.isolation.proofs.Invariant.{granted, Inv, Mine}
 
 -- a set lies inside the grant of domain e
 abbrev pub Inside : Board → ℕ → ℕ → Type 0

@@ -1,14 +1,14 @@
 -- The invariant of every history from an accepted board and an empty table, and that a write of a domain to a frame of its own keeps it.
 -- It knows no call.
-use Prim.Native.Nat.{ℕ, zero, suc, _+_, _*_, _<_, _≤_}
+use Prim.Native.Nat.{ℕ, _<_, _≤_}
 use native.Mathlib.Nat.{lt-irrefl}
 use native.Mathlib.Omega.{arith}
-use mathlib.Core.Bool.{Bool, true, false, false≢true}
+use mathlib.Core.Bool.{Bool, true}
 use mathlib.Core.List.{List, [], _∷_}
 use mathlib.Core.Logic.{_⊎_, inl, inr, ⊎-elim, _↔_}
 use mathlib.Core.Path.{_≡_, refl, sym, ap, _∙_}
 use lib.Dec.{eqb}
-use lib.ListN.{length, getD, set, length-set}
+use lib.ListN.{length, set, length-set}
 use lib.Seq.{getD-set-same, getD-set-other}
 use borrow.Author.Tests.{eqb-true, eqb-false}
 use Rattle.lists.proofs.Split.{cases}
@@ -17,7 +17,7 @@ use Rattle.board.specs.declared.Board.{Board}
 use Rattle.board.specs.Tests.{grant, boardTests}
 use Rattle.calls.specs.Table.{word, wordOf, inSet}
 use Rattle.calls.specs.Calls.{Move, move, moveAll}
-use Rattle.isolation.proofs.Accepted.{over, Facts, facts, Fine, still}
+use Rattle.isolation.proofs.Accepted.{over, facts, Fine, still}
 
 -- a word after a write, at the frame written and at every other
 pub after-write : (P : ℕ → Type 0) (t : List ℕ) (f w x : ℕ) → f < length t → (x ≡ f → P w) → ((x ≡ f → ⊥) → P (word t x)) → P (word (set t f w) x)

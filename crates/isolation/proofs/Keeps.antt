@@ -1,29 +1,27 @@
 -- Each call keeps the invariant, and whatever is another domain's: other domains' active sets, and the words of all frames outside the
 -- caller's grant.
-use Prim.Native.Nat.{ℕ, zero, suc, _*_, _<_, _≤_}
-use native.Mathlib.Nat.{lt-irrefl}
-use native.Mathlib.Omega.{arith}
-use mathlib.Core.Bool.{Bool, true, false, not, _&&_, true≢false}
+use Prim.Native.Nat.{ℕ, _*_, _<_, _≤_}
+use mathlib.Core.Bool.{true, false, _&&_, true≢false}
 use mathlib.Core.List.{List, [], _∷_}
-use mathlib.Core.Logic.{inl, inr, ⊎-elim}
+use mathlib.Core.Logic.{inl, inr}
 use mathlib.Core.Path.{_≡_, refl, sym, ap, _∙_}
 use lib.Dec.{eqb, ltb}
 use lib.ListN.{length, getD, set, List·getD-eq-default}
 use lib.Seq.{getD-set-same, getD-set-other}
-use borrow.Author.Tests.{eqb-true, eqb-false, ltb-false, ne-eqb, eq-eqb}
+use borrow.Author.Tests.{eqb-true, eqb-false, ltb-false}
 use Rattle.lists.specs.Range.{headOr, isEmpty}
 use Rattle.lists.proofs.Split.{cases, below-or-not}
 use Rattle.lists.proofs.Members.{Each}
-use Rattle.lists.proofs.Filter.{none-kept}
+use Rattle.lists.proofs.Filter.{kept-none}
 use Rattle.refusal.specs.Reply.{Test, test, passes}
 use Rattle.refusal.proofs.Replies.{passed-first}
 use Rattle.board.specs.declared.Board.{Board}
-use Rattle.board.specs.Tests.{grant, activeSet, emptyOrOutside, callerTest, boardTests}
-use Rattle.calls.specs.Table.{State, word, wordOf, pageFor, framesWith, mappedTo, choices, strays}
+use Rattle.board.specs.Tests.{grant, activeSet, emptyOrOutside, callerTest}
+use Rattle.calls.specs.Table.{State, word, wordOf, framesWith, mappedTo, choices, strays}
 use Rattle.calls.specs.Calls.{Freed, Active, Moved, Move, Done, called, only, written, pageTest, lookAnswer, look, faultDone, fault, release, colours, pairUp, move, moveAll, recolour}
 use Rattle.isolation.specs.DomainRule.{Call, Look, Fault, Release, Colours, Recolour, names, outcome}
 use Rattle.isolation.proofs.TestLists.{called-accepted, unless-one, caller-below}
-use Rattle.isolation.proofs.Accepted.{over, Facts, facts, Fine, fine-some, set-inside}
+use Rattle.isolation.proofs.Accepted.{over, facts, Fine, fine-some, set-inside}
 use Rattle.isolation.proofs.Invariant.{granted, Inv, Mine, MovesMine, put, moves-keep, recoloured}
 use Rattle.isolation.proofs.Found.{at, Inside, mapped-mine, choices-mine, strays-mine}
 
@@ -78,7 +76,7 @@ module _ (b : Board) (t₀ : List ℕ) where
 
     nowhere : (p : ℕ) → mappedTo (at b t₀ a t) e p ≡ [] → (x : ℕ) → x < b .frames → word t x ≡ wordOf e p → ⊥
     unfolding mappedTo framesWith
-    nowhere p q x h = eqb-false (word t x) (wordOf e p) (none-kept (λ (f : ℕ). eqb (word t f) (wordOf e p)) (b .frames) q x h)
+    nowhere p q x h = eqb-false (word t x) (wordOf e p) (kept-none (λ (f : ℕ). eqb (word t f) (wordOf e p)) (b .frames) q x h)
 
     fault-done : (below : e < b .domains) (p : ℕ) → p ≤ 4095 → (ms gs : List ℕ)
         → (ms ≡ [] → (x : ℕ) → x < b .frames → word t x ≡ wordOf e p → ⊥) → Each (Mine b t₀ e) gs → (isEmpty ms && isEmpty gs) ≡ false

@@ -12,15 +12,14 @@ use lib.Dec.{eqb}
 use lib.ListN.{length, getD}
 use borrow.Author.Tests.{eqb-true, eq-eqb, lt-ltb, le-ltb}
 use Rattle.lists.proofs.Members.{Each}
-use Rattle.lists.proofs.Filter.{kept, none-kept}
+use Rattle.lists.proofs.Filter.{kept, kept-none}
 use Rattle.refusal.specs.Reply.{Answers, unless}
 use Rattle.board.specs.declared.Board.{Board}
-use Rattle.board.specs.Tests.{callerTest}
 use Rattle.calls.specs.Table.{State, word, wordOf, framesWith, mappedTo}
-use Rattle.calls.specs.Calls.{Mapped, Unmapped, Active, settle, only, pageTest, lookAnswer, look, colours}
+use Rattle.calls.specs.Calls.{Mapped, Active, settle, only, pageTest, lookAnswer, look, colours}
 use Rattle.isolation.specs.DomainRule.{SameColours, SameMap}
 use Rattle.isolation.proofs.TestLists.{called-accepted}
-use Rattle.isolation.proofs.Accepted.{over, facts}
+use Rattle.isolation.proofs.Accepted.{facts}
 use Rattle.isolation.proofs.Invariant.{granted, Held, Inv}
 use Rattle.isolation.proofs.Found.{at}
 use Rattle.isolation.proofs.Keeps.{Good, good}
@@ -44,7 +43,7 @@ module _ (b : Board) (t₀ : List ℕ) {d : ℕ} (below : d < b .domains) where
 
     missing : (p : ℕ) → mappedTo (at b t₀ a t) d p ≡ [] → (x : ℕ) → x < b .frames → eqb (word t x) (wordOf d p) ≡ false
     unfolding mappedTo framesWith
-    missing p = none-kept (λ (x : ℕ). eqb (word t x) (wordOf d p)) (b .frames)
+    missing p = kept-none (λ (x : ℕ). eqb (word t x) (wordOf d p)) (b .frames)
 
     -- look answers the frame that has the word
     look-finds : (p f : ℕ) → p ≤ 4095 → f < b .frames → word t f ≡ wordOf d p → lookAnswer (mappedTo (at b t₀ a t) d p) ≡ Mapped f

@@ -1,27 +1,23 @@
 -- The domain rule: the start has the invariant, every call keeps it, own calls go by what the domain sees and others leave that alone, and
 -- colours and look tell all of it. Unwinding gives the rule.
-use Prim.Native.Nat.{ℕ, _<_, _≤_}
-use native.Mathlib.Nat.{lt-irrefl}
-use native.Mathlib.Omega.{arith}
-use mathlib.Core.Bool.{Bool, true, false, true≢false}
+use Prim.Native.Nat.{ℕ, _<_}
+use mathlib.Core.Bool.{Bool, true, false}
 use mathlib.Core.List.{List, [], _∷_, List·Permᴰ, List·Permᴰ·trans, Permᴰ·symm}
-use mathlib.Core.Logic.{_↔_, inl, inr, ⊎-elim}
-use mathlib.Core.Path.{_≡_, refl, sym, ap, subst, _∙_}
+use mathlib.Core.Logic.{inl, inr, ⊎-elim}
+use mathlib.Core.Path.{_≡_, refl, sym, subst, _∙_}
 use lib.Dec.{eqb}
-use lib.ListN.{length, getD}
+use lib.ListN.{length}
 use borrow.Author.Tests.{eqb-true, eqb-false, eq-eqb}
-use Rattle.lists.specs.Choice.{if_then_else_}
 use Rattle.lists.proofs.Split.{cases}
 use Rattle.board.specs.declared.Board.{Board}
-use Rattle.calls.specs.Table.{State, word}
-use Rattle.calls.specs.Calls.{Move, look, colours}
+use Rattle.calls.specs.Table.{State}
+use Rattle.calls.specs.Calls.{Move}
 use Rattle.isolation.specs.DomainRule.{Call, Look, Colours, names, outcome, run, own, Program, Told, told, Same, AllSame, answers, SameColours, SameMap, Accepted, Empty, DomainRule}
 use Rattle.isolation.proofs.Unwinding.{runs, owns, heard, All₂, rule}
-use Rattle.isolation.proofs.TestLists.{Meet}
 use Rattle.isolation.proofs.Accepted.{facts}
-use Rattle.isolation.proofs.Invariant.{granted, Inv}
-use Rattle.isolation.proofs.Found.{at, SameWords}
-use Rattle.isolation.proofs.Keeps.{Good, good, Kept, call-keeps}
+use Rattle.isolation.proofs.Invariant.{granted}
+use Rattle.isolation.proofs.Found.{at}
+use Rattle.isolation.proofs.Keeps.{Good, good, call-keeps}
 use Rattle.isolation.proofs.Sees.{Agree, call-meets}
 use Rattle.isolation.proofs.Reveals.{reveals}
 

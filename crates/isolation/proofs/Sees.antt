@@ -1,11 +1,10 @@
 -- A domain's own calls go by what it sees: its active set and the words of the frames of its grant. Two states that agree there give the
 -- same reply and the same moves, and agree again afterwards.
-use Prim.Native.Nat.{ℕ, zero, suc, _*_, _<_, _≤_}
-use native.Mathlib.Omega.{arith}
-use mathlib.Core.Bool.{Bool, true, false, not, _&&_, true≢false}
+use Prim.Native.Nat.{ℕ, _*_, _<_, _≤_}
+use mathlib.Core.Bool.{true, false, _&&_, true≢false}
 use mathlib.Core.List.{List, [], _∷_}
 use mathlib.Core.Path.{_≡_, refl, sym, ap, ap₂, subst, _∙_}
-use lib.Dec.{eqb, ltb}
+use lib.Dec.{ltb}
 use lib.ListN.{length, getD, set, length-set}
 use lib.Seq.{getD-set-same, getD-set-other}
 use borrow.Author.Tests.{ltb-true, ltb-false, not-false}
@@ -15,12 +14,12 @@ use Rattle.refusal.specs.Reply.{Test, test, passes}
 use Rattle.refusal.proofs.Replies.{passed-first}
 use Rattle.board.specs.declared.Board.{Board}
 use Rattle.board.specs.Tests.{grant, activeSet, emptyOrOutside, callerTest}
-use Rattle.calls.specs.Table.{State, word, wordOf, pageFor, mappedTo, choices, strays}
+use Rattle.calls.specs.Table.{State, word, wordOf, mappedTo, choices, strays}
 use Rattle.calls.specs.Calls.{Freed, Active, Moved, Move, Done, called, only, written, pageTest, lookAnswer, look, faultDone, fault, release, colours, pairUp, move, moveAll, recolour}
 use Rattle.isolation.specs.DomainRule.{Call, Look, Fault, Release, Colours, Recolour, names, outcome}
 use Rattle.isolation.proofs.TestLists.{called-accepted, Meet, MeetDone, Alike, unless-two, caller-below}
 use Rattle.isolation.proofs.Accepted.{over, facts, set-inside}
-use Rattle.isolation.proofs.Invariant.{after-write, granted, Inv, Mine, MovesMine}
+use Rattle.isolation.proofs.Invariant.{after-write, Inv, Mine, MovesMine}
 use Rattle.isolation.proofs.Found.{at, Inside, SameWords, mapped-mine, choices-mine, strays-mine, same-mapped, same-choices, same-strays}
 use Rattle.isolation.proofs.Keeps.{Good, good, active-place, pairs-mine}
 

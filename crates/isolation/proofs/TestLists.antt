@@ -1,19 +1,18 @@
 -- Calls under their tests: where the board passes 2 to 7, a call goes by its caller's test and its own. What holds of a refusal and of
 -- the outcome where all tests pass holds of the call, for one state and for two.
 use Prim.Native.Nat.{ℕ, _<_}
-use mathlib.Core.Bool.{true, false, not}
+use mathlib.Core.Bool.{true, false}
 use mathlib.Core.List.{List, [], _∷_, _++_}
-use mathlib.Core.Path.{_≡_, refl, sym, ap, _∙_}
+use mathlib.Core.Path.{_≡_, refl, ap}
 use lib.Dec.{ltb}
 use lib.ListN.{length}
 use borrow.Author.Tests.{ltb-true, not-false}
-use Rattle.lists.specs.Choice.{if_then_else_}
 use Rattle.lists.proofs.Split.{cases}
-use Rattle.refusal.specs.Reply.{Reply, Answers, Refuses, Test, test, unless, passes}
+use Rattle.refusal.specs.Reply.{Answers, Test, unless, passes}
 use Rattle.refusal.proofs.Replies.{passed-first}
 use Rattle.board.specs.Tests.{boardTests, callerTest}
 use Rattle.calls.specs.Table.{State}
-use Rattle.calls.specs.Calls.{Move, Done, Outcome, settle, called}
+use Rattle.calls.specs.Calls.{Done, Outcome, settle, called}
 
 -- tests that pass may be left out in front
 unless-passed : {A : Type 0} (ts us : List Test) (a : A) → passes ts ≡ true → unless (ts ++ us) a ≡ unless us a

@@ -5,7 +5,7 @@ use native.Mathlib.Omega.{arith}
 use mathlib.Core.Bool.{Bool, true, false}
 use mathlib.Core.List.{List, [], _∷_}
 use mathlib.Core.Logic.{⊎-elim}
-use mathlib.Core.Path.{_≡_, refl, sym, ap, _∙_}
+use mathlib.Core.Path.{_≡_, refl}
 use Rattle.lists.specs.Range.{from, upto, keep}
 use Rattle.lists.proofs.Split.{cases}
 use Rattle.lists.proofs.Members.{Each}
@@ -38,8 +38,8 @@ module _ (p : ℕ → Bool) where
       (λ q. absurd (no-member _ _ (rw q at e)))
       (λ q. ⊎-elim (λ z. rw (← z) q) (λ m. none-from n (suc i) (rw q at e) x m (omega arith)) (eq-or-lt-of-le l))
 
-  pub none-kept : (n : ℕ) → keep p (upto n) ≡ [] → (x : ℕ) → x < n → p x ≡ false
-  none-kept n e x h = none-from n 0 e x (omega arith) (omega arith)
+  pub kept-none : (n : ℕ) → keep p (upto n) ≡ [] → (x : ℕ) → x < n → p x ≡ false
+  kept-none n e x h = none-from n 0 e x (omega arith) (omega arith)
 
 module _ (p q : ℕ → Bool) where
   same-from : (n i : ℕ) → ((x : ℕ) → i ≤ x → x < i + n → p x ≡ q x) → keep p (from i n) ≡ keep q (from i n)

@@ -1,6 +1,6 @@
 // The hash by which lists of words are compared: h becomes (16,777,619 h + word) modulo 2^32 at each
 // word, from 0 on.
-ghost use Prim.Native.Nat.{_<_, _≤_, _*_};
+ghost use Prim.Native.Nat.{_+_, _*_, _<_, _≤_};
 ghost use lib.ListN.{length};
 use board::Board;
 
@@ -11,13 +11,17 @@ pub fn step(h: u64, word: u32) -> u64
     (h * 16777619 + word as u64) % 4294967296
 }
 
+fn wide(word: u16) -> u32 {
+    word as u32
+}
+
 pub fn words(list: &[u16]) -> u64
     ensures { λ r. ⌜ r < 4294967296 ⌝ }
 {
     let mut h = 0;
     let mut i = 0;
     while i < list.len() {
-        h = step(h, list[i] as u32);
+        h = step(h, wide(list[i]));
         i += 1;
     }
     h
@@ -43,6 +47,16 @@ pub fn board(b: Board) -> u64 {
     eight(eight(numbers, grants), active)
 }
 
+fn triple(list: &[u16], at: usize) -> u64
+    requires { ⌜ at + 3 ≤ length (now list) ⌝ }
+    ensures { λ r. ⌜ r < 4294967296 ⌝ }
+{
+    step(
+        step(step(0, wide(list[at])), wide(list[at + 1])),
+        wide(list[at + 2]),
+    )
+}
+
 // The sum over the triples of the hash of each.
 pub fn triples(list: &[u16], count: usize) -> u64
     requires { ⌜ (count ≤ 4400) × (3 * count ≤ length (now list)) ⌝ }
@@ -50,8 +64,7 @@ pub fn triples(list: &[u16], count: usize) -> u64
     let mut sum: u64 = 0;
     let mut i = 0;
     while i < count {
-        let at = 3 * i;
-        sum += step(step(step(0, list[at] as u32), list[at + 1] as u32), list[at + 2] as u32);
+        sum += triple(list, 3 * i);
         i += 1;
     }
     sum

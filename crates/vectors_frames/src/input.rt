@@ -1,11 +1,27 @@
 // The words of the scripts: a board, a table, and the numbers of each call.
+ghost use mathlib.Core.Path.{_≡_};
 ghost use Prim.Native.Nat.{_<_, _≤_};
+ghost use lib.ListN.{length};
 use board::Board;
 
 fn wide(byte: u8) -> u32
     ensures { λ r. ⌜ r < 256 ⌝ }
 {
     byte as u32
+}
+
+// Room for the longest move list and the longest table. The contracts give only the lengths, which
+// lending a part needs.
+pub fn longest_list() -> [u16; 13000]
+    ensures { λ r. ⌜ 13000 ≡ length r ⌝ }
+{
+    [0; 13000]
+}
+
+pub fn longest_table() -> [u16; 4200]
+    ensures { λ r. ⌜ 4200 ≡ length r ⌝ }
+{
+    [0; 4200]
 }
 
 pub fn next_word() -> u32 {
@@ -56,10 +72,10 @@ pub fn next_table(table: &mut [u16]) {
 }
 
 // Word i is (7 i + 3) modulo 65,536.
-pub fn fill(list: &mut [u16; 13000]) {
+pub fn fill(list: &mut [u16]) {
     let mut word: u32 = 3;
     let mut i = 0;
-    while i < 13000 {
+    while i < list.len() {
         list[i] = (word % 65536) as u16;
         word = (word + 7) % 65536;
         i += 1;

@@ -1,10 +1,8 @@
 // Answers the separate tool's vectors of the frame table: scripts of the five calls. The input is
 // little-endian 32-bit words, as input.rt reads them; output.rt writes the lines of each call. Tables,
 // boards and move lists are compared by a hash, the triples by a sum that does not depend on their order.
-ghost use Prim.Native.Nat.{_≤_};
-ghost use lib.ListN.{length};
 use board::Board;
-use frames::Recoloured;
+
 mod hash;
 mod input;
 mod output;
@@ -32,13 +30,13 @@ fn next_request() -> Request {
 
 // The move list that each recolouring is lent holds words that tell whether one was changed.
 fn recolour(board: Board, table: &mut [u16], request: Request) -> Board {
-    let mut list = [0u16; 13000];
-    input::fill(&mut list);
+    let mut list = input::longest_list();
     let room = request.room;
     if 13000 < room {
         return board;
     }
     let moves = &mut list[..room];
+    input::fill(moves);
     let done = frames::recolour(board, table, request.domain, request.argument, moves);
     let answer = done.answer;
     let after = done.board;
@@ -48,19 +46,46 @@ fn recolour(board: Board, table: &mut [u16], request: Request) -> Board {
     after
 }
 
+fn look(board: Board, table: &[u16], request: Request) {
+    output::looked(frames::look(board, table, request.domain, request.argument));
+    output::table(table);
+}
+
+fn fault(board: Board, table: &mut [u16], request: Request) {
+    output::faulted(frames::fault(board, table, request.domain, request.argument));
+    output::table(table);
+}
+
+fn release(board: Board, table: &mut [u16], request: Request) {
+    output::released(frames::release(board, table, request.domain, request.argument));
+    output::table(table);
+}
+
+fn colours(board: Board, table: &[u16], request: Request) {
+    output::active(frames::colours(board, table, request.domain));
+    output::table(table);
+}
+
+// The board that the call leaves: only a recolouring changes it.
 fn answer(board: Board, table: &mut [u16], request: Request) -> Board {
     let operation = request.operation;
-    if operation == 4 {
-        return recolour(board, table, request);
+    if operation == 0 {
+        look(board, table, request);
+        return board;
     }
-    match operation {
-        0 => output::looked(frames::look(board, table, request.domain, request.argument)),
-        1 => output::faulted(frames::fault(board, table, request.domain, request.argument)),
-        2 => output::released(frames::release(board, table, request.domain, request.argument)),
-        _ => output::active(frames::colours(board, table, request.domain)),
+    if operation == 1 {
+        fault(board, table, request);
+        return board;
     }
-    output::table(table);
-    board
+    if operation == 2 {
+        release(board, table, request);
+        return board;
+    }
+    if operation == 3 {
+        colours(board, table, request);
+        return board;
+    }
+    recolour(board, table, request)
 }
 
 fn calls(first: Board, table: &mut [u16], count: u32) {
@@ -74,7 +99,7 @@ fn calls(first: Board, table: &mut [u16], count: u32) {
 }
 
 fn script() {
-    let mut words = [0u16; 4200];
+    let mut words = input::longest_table();
     let board = input::next_board();
     let length = input::next_below(4200);
     if 4200 < length {

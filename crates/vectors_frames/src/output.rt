@@ -1,6 +1,6 @@
 // The lines of each call: its reply, the hash of the table, and after a recolouring those of the board,
 // the triples and the rest of the move list.
-ghost use Prim.Native.Nat.{_≤_};
+use crate::hash;
 use board::Board;
 use frames::ActiveColours;
 use frames::Faulted;
@@ -8,7 +8,6 @@ use frames::Looked;
 use frames::Moved;
 use frames::Released;
 use refusal::Refusal;
-use crate::hash;
 
 fn line(name: &[u8], number: u32) {
     io::write_all(1, name);
