@@ -1,0 +1,2 @@
+-- The laws of supply.
+pub mod Laws

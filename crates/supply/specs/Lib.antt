@@ -1,0 +1,2 @@
+-- The least supply of a periodic resource.
+pub mod Supply

@@ -1,0 +1,17 @@
+-- The least supply of a periodic resource with period P and budget Q: document 01, "Plans" (Shin and Lee 2003). A difference of naturals is
+-- 0 where it would be negative, so that "0 if u is negative" and "the larger of 0 and" need no words of their own.
+use Prim.Native.Nat.{ℕ, _+_, _-_, _*_, _/_, _%_, _<_, _≤_}
+
+-- with u = t − (P − Q): (u div P) × Q + the larger of 0 and (u mod P) − (P − Q)
+unfoldable pub supply : ℕ → ℕ → ℕ → ℕ
+supply p q t = let u = t - (p - q) in u / p * q + (u % p - (p - q))
+
+-- the first microsecond in which the supply is x, for x above 0: two gaps, the whole budgets before the last unit, and its place in the
+-- budget that it is in
+unfoldable pub firstSupply : ℕ → ℕ → ℕ → ℕ
+firstSupply p q x = 2 * (p - q) + (x - 1) / q * p + (x - 1) % q + 1
+
+-- a budget of 1 up to its period
+pub record Budget (p q : ℕ) : Type 0 where
+  pub some : 0 < q
+  pub within : q ≤ p
