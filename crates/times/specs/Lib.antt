@@ -1,0 +1,4 @@
+-- Need, and the first microsecond in which the supply covers it.
+pub mod First
+pub mod Need
+pub mod Times

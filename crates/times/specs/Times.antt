@@ -1,0 +1,40 @@
+-- Task time and VCPU time: document 01, "Plans". A task's rows are those of its VCPU's part, a VCPU's those of the whole list.
+use Prim.Native.Nat.{ℕ, _+_, _-_, _*_, _<_}
+use mathlib.Core.Bool.{Bool}
+use mathlib.Core.List.{List}
+use lib.Dec.{eqb, leb}
+use Rattle.lists.specs.Choice.{if_then_else_}
+use Rattle.supply.specs.Supply.{supply}
+use Rattle.plan.specs.Rows.{core, vcpuPeriod, budget, vcpuOf, taskPeriod, deadline, cost, colours-shared}
+use Rattle.plan.specs.Part.{partStart, partOf}
+use Rattle.times.specs.First.{Time, firstTime}
+use Rattle.times.specs.Need.{need}
+
+-- an arrival of task j charges task i its cost and the reload of each colour that both hold
+unfoldable pub charge : ℕ → List ℕ → ℕ → ℕ → ℕ
+charge reload part i j = cost part j + reload * colours-shared part i j
+
+-- the need of task i of a part in t
+unfoldable pub taskNeed : ℕ → List ℕ → ℕ → ℕ → ℕ
+taskNeed reload part i t = need (cost part i) (taskPeriod part) (charge reload part i) i t
+
+-- the first t from 1 to the deadline with supply at least the need
+unfoldable pub timeInPart : ℕ → ℕ → ℕ → List ℕ → ℕ → Time
+timeInPart p q reload part i = firstTime (λ (t : ℕ). leb (taskNeed reload part i t) (supply p q t)) (deadline part i)
+
+-- the time of row j of the task list: over the part of its VCPU alone
+unfoldable pub taskTime : ℕ → List ℕ → List ℕ → ℕ → Time
+taskTime reload vcpus tasks j =
+    let v = vcpuOf tasks j in
+    timeInPart (vcpuPeriod vcpus v) (budget vcpus v) reload (partOf tasks v) (j - partStart tasks v)
+
+-- an earlier VCPU of the same core charges its budget
+unfoldable pub vcpuCharge : List ℕ → ℕ → ℕ → ℕ
+vcpuCharge vcpus i j = if eqb (core vcpus j) (core vcpus i) then budget vcpus j else 0
+
+unfoldable pub vcpuNeed : List ℕ → ℕ → ℕ → ℕ
+vcpuNeed vcpus i t = need (budget vcpus i) (vcpuPeriod vcpus) (vcpuCharge vcpus i) i t
+
+-- the first t from 1 to the period with t, its supply in t, at least its need
+unfoldable pub vcpuTime : List ℕ → ℕ → Time
+vcpuTime vcpus i = firstTime (λ (t : ℕ). leb (vcpuNeed vcpus i t) t) (vcpuPeriod vcpus i)
