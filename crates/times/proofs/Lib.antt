@@ -1,0 +1,3 @@
+-- The laws of need and of the search for a time.
+pub mod Search
+pub mod Needs

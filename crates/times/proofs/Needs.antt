@@ -1,0 +1,56 @@
+-- The laws of need, over any periods and charges: it never falls, is at least the own cost, and has a bound for bounded charges.
+use Prim.Native.Nat.{ℕ, zero, suc, _+_, _-_, _*_, _/_, _<_, _≤_}
+use native.Mathlib.Nat.{le-refl, le-trans, add-le-add, mul-le-mul, mul-le-mul-right, le-div-iff-mul-le, div-mul-le-self, div-zero, zero-mul, mul-zero, eq-zero-or-pos, div-lt-iff-lt-mul, le-of-suc-le-suc, le-of-eq, le-mul-of-pos-right, suc-mul}
+use native.Mathlib.Numerals.{add-one}
+use native.Mathlib.Omega.{arith}
+use mathlib.Core.Logic.{⊎-elim}
+use mathlib.Core.Path.{_≡_, refl, sym, ap, _∙_}
+use Rattle.times.specs.Need.{arrivals, need}
+
+div-mono : (k : ℕ) {a c : ℕ} → a ≤ c → a / k ≤ c / k
+div-mono k {a} {c} h =
+    ⊎-elim
+    (λ z. rw z (le-of-eq (div-zero a ∙ sym (div-zero c))))
+    (λ pos. le-div-iff-mul-le pos .1 (le-trans (div-mul-le-self a k) h))
+    (eq-zero-or-pos k)
+
+pub arrivals-mono : (period s t : ℕ) → s ≤ t → arrivals s period ≤ arrivals t period
+unfolding arrivals
+arrivals-mono period s t h = div-mono period (omega arith)
+
+-- no more arrivals than microseconds
+pub arrivals-le : (period t : ℕ) → arrivals t period ≤ t
+unfolding arrivals
+arrivals-le period t =
+    ⊎-elim
+    (λ z. rw z (omega (arith, div-zero (t + (0 - 1)))))
+    (λ pos.
+    let fits : t + (period - 1) < suc t * period = omega (arith, suc-mul t period, le-mul-of-pos-right t pos) in
+    le-of-suc-le-suc (div-lt-iff-lt-mul {y = suc t} pos .1 fits))
+    (eq-zero-or-pos period)
+
+module _ (own : ℕ) (period charge : ℕ → ℕ) where
+  pub need-mono : (n s t : ℕ) → s ≤ t → need own period charge n s ≤ need own period charge n t
+  unfolding need
+  need-mono zero s t h = le-refl own
+  need-mono (suc n) s t h =
+      add-le-add (need-mono n s t h) (mul-le-mul-right (charge n) (arrivals-mono (period n) s t h))
+
+  pub own-le : (n t : ℕ) → own ≤ need own period charge n t
+  unfolding need
+  own-le zero t = le-refl own
+  own-le (suc n) t = omega (arith, own-le n t)
+
+  -- one row more
+  pub need-next : (n t : ℕ) → need own period charge (n + 1) t ≡ need own period charge n t + arrivals t (period n) * charge n
+  unfolding need
+  need-next n t = rw (add-one n)
+
+  -- charges of at most k
+  pub need-le : (k n t : ℕ) → ((j : ℕ) → j < n → charge j ≤ k) → need own period charge n t ≤ own + n * (t * k)
+  unfolding need
+  need-le k zero t h = omega arith
+  need-le k (suc n) t h =
+      let rest = need-le k n t (λ j l. h j (omega arith)) in
+      let one = mul-le-mul (arrivals-le (period n) t) (h n (omega arith)) in
+      omega (arith, rest, one, suc-mul n (t * k))
