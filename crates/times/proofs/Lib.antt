@@ -1,3 +1,4 @@
 -- The laws of need and of the search for a time.
 pub mod Search
 pub mod Needs
+pub mod Rows

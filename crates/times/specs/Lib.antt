@@ -2,3 +2,4 @@
 pub mod First
 pub mod Need
 pub mod Times
+pub mod Valid
