@@ -114,3 +114,31 @@ module _ {p q : ℕ} (b : Budget p q) where
       let early = le-supply x t (omega arith) (omega (arith, late, first-next x (omega arith))) in
       absurd (lt-irrefl 0 (omega (arith, early))))
       (λ l. l)
+
+-- a larger budget with the same period has each amount no later
+first-budget : (p q q′ x : ℕ) → Budget p q → q ≤ q′ → q′ ≤ p → 0 < x → firstSupply p q′ x ≤ firstSupply p q x
+unfolding firstSupply
+first-budget p q q′ x b le within pos =
+    let y : ℕ = x - 1 in
+    let a : ℕ = y / q in
+    let c : ℕ = y / q′ in
+    let low = mod-lt y (b .some) in
+    let low′ = mod-lt y (lt-of-lt-of-le (b .some) le) in
+    let is = div-add-mod' y q in
+    let is′ = div-add-mod' y q′ in
+    below-or-not c a
+    (λ l. omega (arith, next-mul c a p l))
+    (λ l.
+    below-or-not a c
+    (λ m. absurd (lt-irrefl 0 (omega (arith, next-mul a c q m, mul-le-mul-left c le))))
+    (λ m.
+    let same : a ≡ c = omega arith in
+    omega (arith, ap (λ (z : ℕ). z * p) same, ap (λ (z : ℕ). z * q′) same, mul-le-mul-left a le)))
+
+pub supply-budget : (p q q′ t : ℕ) → Budget p q → q ≤ q′ → q′ ≤ p → supply p q t ≤ supply p q′ t
+supply-budget p q q′ t b le within =
+    let b′ : Budget p q′ = record { some = lt-of-lt-of-le (b .some) le; within = within } in
+    let x : ℕ = supply p q t in
+    below-or-not 0 x
+    (λ pos. le-supply b′ x t pos (le-trans (first-budget p q q′ x b le within pos) (first-le b x t pos (le-refl x))))
+    (λ none. omega arith)

@@ -2,3 +2,4 @@
 pub mod Search
 pub mod Needs
 pub mod Rows
+pub mod Planner

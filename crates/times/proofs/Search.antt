@@ -68,6 +68,16 @@ module _ (ok : ℕ → Bool) where
   unfolding firstTime
   told-none bound e s a b = told-none-from bound 1 e s a (omega arith)
 
+-- tests that agree have one first time
+same-from : (ok ok′ : ℕ → Bool) (n i : ℕ) → ((t : ℕ) → ok t ≡ ok′ t) → firstFrom ok n i ≡ firstFrom ok′ n i
+unfolding firstFrom
+same-from ok ok′ zero i f = refl
+same-from ok ok′ (suc n) i f = rw (f i, same-from ok ok′ n (suc i) f)
+
+pub first-same : (ok ok′ : ℕ → Bool) (bound : ℕ) → ((t : ℕ) → ok t ≡ ok′ t) → firstTime ok bound ≡ firstTime ok′ bound
+unfolding firstTime
+first-same ok ok′ bound f = same-from ok ok′ bound 1 f
+
 -- a supply with a first time for each amount, and a need that never falls and is never 0
 pub record Searchable (sup want first : ℕ → ℕ) : Type 0 where
   pub first-le : (x t : ℕ) → 0 < x → x ≤ sup t → first x ≤ t

@@ -1,0 +1,119 @@
+-- What a planner relies on: what a reported time says, and that lowering a cost, the reload or a colour overlap, or raising the VCPU's
+-- budget, never makes a task's time later; a task added at the end changes no other task's time.
+use Prim.Native.Nat.{ℕ, zero, suc, _+_, _*_, _<_, _≤_}
+use native.Mathlib.Nat.{le-refl, le-trans, lt-irrefl, add-le-add, mul-le-mul, mul-le-mul-left}
+use native.Mathlib.Omega.{arith}
+use mathlib.Core.Bool.{Bool, true, false, true≢false}
+use mathlib.Core.List.{List, _++_}
+use mathlib.Core.Path.{_≡_, refl, sym, ap, ap₂, _∙_}
+use lib.Dec.{leb}
+use lib.Count.{ones}
+use lib.ListN.{length, List·getD-append}
+use borrow.Author.Tests.{leb-true, leb-false, le-leb}
+use Rattle.lists.proofs.Split.{below-or-not}
+use Rattle.supply.specs.Supply.{supply, Budget}
+use Rattle.supply.proofs.Laws.{supply-budget}
+use Rattle.plan.specs.Rows.{taskWord, taskPeriod, deadline, colourSet, cost, colours-shared}
+use Rattle.times.specs.First.{Time, At, Late, firstTime}
+use Rattle.times.specs.Need.{arrivals, need}
+use Rattle.times.specs.Times.{charge, taskNeed, timeInPart}
+use Rattle.times.proofs.Search.{first-same, told-first, told-none}
+
+-- a reported time: the supply in it covers the need, and in no earlier microsecond
+pub time-is-first : (p q reload : ℕ) (part : List ℕ) (i t : ℕ) → timeInPart p q reload part i ≡ At t
+    → (1 ≤ t) × (t ≤ deadline part i) × (taskNeed reload part i t ≤ supply p q t) × ((s : ℕ) → 1 ≤ s → s < t → supply p q s < taskNeed reload part i s)
+unfolding timeInPart
+time-is-first p q reload part i t e =
+    let r = told-first (λ (s : ℕ). leb (taskNeed reload part i s) (supply p q s)) (deadline part i) t e in
+    (r .low, r .high, leb-true _ _ (r .passes), λ s a b. leb-false _ _ (r .before s a b))
+
+-- late: in no microsecond from 1 to the deadline
+pub late-is-late : (p q reload : ℕ) (part : List ℕ) (i : ℕ) → timeInPart p q reload part i ≡ Late
+    → (s : ℕ) → 1 ≤ s → s ≤ deadline part i → supply p q s < taskNeed reload part i s
+unfolding timeInPart
+late-is-late p q reload part i e s a b = leb-false _ _ (told-none (λ (x : ℕ). leb (taskNeed reload part i x) (supply p q x)) (deadline part i) e s a b)
+
+-- the second time is no later than the first; late is later than any time
+abbrev pub NoLater : Time → Time → Type 0
+NoLater Late b = Unit {0}
+NoLater (At t) (At s) = s ≤ t
+NoLater (At t) Late = ⊥
+
+-- a test that is passed wherever another is has its first time no later
+no-later : (ok ok′ : ℕ → Bool) (bound : ℕ) → ((s : ℕ) → s ≤ bound → ok s ≡ true → ok′ s ≡ true) → NoLater (firstTime ok bound) (firstTime ok′ bound)
+no-later ok ok′ bound f = go (firstTime ok bound) (firstTime ok′ bound) refl refl
+  where
+    go : (a b : Time) → firstTime ok bound ≡ a → firstTime ok′ bound ≡ b → NoLater a b
+    go Late b e k = tt
+    go (At t) (At s) e k =
+        let r = told-first ok bound t e in
+        let q = told-first ok′ bound s k in
+        below-or-not t s (λ l. absurd (true≢false (sym (f t (r .high) (r .passes)) ∙ q .before t (r .low) l))) (λ l. l)
+    go (At t) Late e k =
+        let r = told-first ok bound t e in
+        true≢false (sym (f t (r .high) (r .passes)) ∙ told-none ok′ bound k t (r .low) (r .high))
+
+-- less to do at the same periods
+need-less : (own own′ : ℕ) (period period′ charge charge′ : ℕ → ℕ) (n t : ℕ) → own′ ≤ own
+    → ((j : ℕ) → j < n → (period′ j ≡ period j) × (charge′ j ≤ charge j))
+    → need own′ period′ charge′ n t ≤ need own period charge n t
+unfolding need
+need-less own own′ period period′ charge charge′ zero t h f = h
+need-less own own′ period period′ charge charge′ (suc n) t h f =
+    let last = f n (omega arith) in
+    add-le-add (need-less own own′ period period′ charge charge′ n t h (λ j l. f j (omega arith)))
+    (rw (last .0) (mul-le-mul-left (arrivals t (period n)) (last .1)))
+
+-- Lower costs, a lower reload and smaller overlaps never make a task's time later, where periods and its deadline stay.
+pub less-is-no-later :
+    (p q reload reload′ : ℕ) (part part′ : List ℕ) (i : ℕ) → deadline part i ≡ deadline part′ i → reload′ ≤ reload → cost part′ i ≤ cost part i
+    → ((j : ℕ) → j < i → (taskPeriod part′ j ≡ taskPeriod part j) × (cost part′ j ≤ cost part j) × (colours-shared part′ i j ≤ colours-shared part i j))
+    → NoLater (timeInPart p q reload part i) (timeInPart p q reload′ part′ i)
+unfolding timeInPart taskNeed charge
+less-is-no-later p q reload reload′ part part′ i due less own f =
+    let needs : (t : ℕ) → taskNeed reload′ part′ i t ≤ taskNeed reload part i t = λ t.
+        need-less (cost part i) (cost part′ i) (taskPeriod part) (taskPeriod part′) (charge reload part i) (charge reload′ part′ i) i t own
+        (λ j l. let r = f j l in (r .0, add-le-add (r .1) (mul-le-mul less (r .2)))) in
+    rw (← due)
+    (no-later (λ (t : ℕ). leb (taskNeed reload part i t) (supply p q t)) (λ (t : ℕ). leb (taskNeed reload′ part′ i t) (supply p q t)) (deadline part i)
+    (λ t h e. le-leb _ _ (le-trans (needs t) (leb-true _ _ e))))
+
+-- A larger budget of the VCPU never makes a task's time later.
+pub budget-is-no-later :
+    (p q q′ reload : ℕ) (part : List ℕ) (i : ℕ) → Budget p q → q ≤ q′ → q′ ≤ p
+    → NoLater (timeInPart p q reload part i) (timeInPart p q′ reload part i)
+unfolding timeInPart
+budget-is-no-later p q q′ reload part i b le within =
+    no-later (λ (t : ℕ). leb (taskNeed reload part i t) (supply p q t)) (λ (t : ℕ). leb (taskNeed reload part i t) (supply p q′ t)) (deadline part i)
+    (λ t h e. le-leb _ _ (le-trans (leb-true _ _ e) (supply-budget p q q′ t b le within)))
+
+-- the same at each row
+need-same : (own : ℕ) (period period′ charge charge′ : ℕ → ℕ) (n t : ℕ) → ((j : ℕ) → j < n → (period′ j ≡ period j) × (charge′ j ≡ charge j))
+    → need own period′ charge′ n t ≡ need own period charge n t
+unfolding need
+need-same own period period′ charge charge′ zero t f = refl
+need-same own period period′ charge charge′ (suc n) t f =
+    let last = f n (omega arith) in
+    rw (need-same own period period′ charge charge′ n t (λ j l. f j (omega arith)), last .0, last .1)
+
+-- A task added at the end, whatever words come after the rows up to task i, changes nothing in its time.
+module _ (part more : List ℕ) (i : ℕ) (whole : 20 * i + 20 ≤ length part) where
+  word-stays : (j k : ℕ) → j ≤ i → k < 20 → taskWord (part ++ more) j k ≡ taskWord part j k
+  word-stays j k h l = List·getD-append part more 0 (20 * j + k) (omega arith)
+
+  set-stays : (j : ℕ) → j ≤ i → colourSet (part ++ more) j ≡ colourSet part j
+  set-stays j h = word-stays j 3 h (omega arith)
+
+  pub later-tasks-change-nothing : (p q reload : ℕ) → ((j : ℕ) → j ≤ i → ones (colourSet part j) ≤ 16)
+      → timeInPart p q reload (part ++ more) i ≡ timeInPart p q reload part i
+  unfolding timeInPart taskNeed charge cost colours-shared
+  later-tasks-change-nothing p q reload few =
+      let costs : (j : ℕ) → j ≤ i → cost (part ++ more) j ≡ cost part j = λ j h.
+          rw (set-stays j h) (word-stays j (3 + ones (colourSet part j)) h (omega (arith, few j h))) in
+      let needs : (t : ℕ) → taskNeed reload (part ++ more) i t ≡ taskNeed reload part i t = λ t.
+          rw (costs i (le-refl i))
+          (need-same (cost part i) (taskPeriod part) (taskPeriod (part ++ more)) (charge reload part i) (charge reload (part ++ more) i) i t
+          (λ j l. (word-stays j 1 (omega arith) (omega arith), rw (costs j (omega arith), set-stays j (omega arith), set-stays i (le-refl i))))) in
+      first-same (λ (t : ℕ). leb (taskNeed reload (part ++ more) i t) (supply p q t)) (λ (t : ℕ). leb (taskNeed reload part i t) (supply p q t)) (deadline (part ++ more) i)
+      (λ t. ap (λ (x : ℕ). leb x (supply p q t)) (needs t))
+      ∙ ap (firstTime (λ (t : ℕ). leb (taskNeed reload part i t) (supply p q t))) (word-stays i 2 (le-refl i) (omega arith))
