@@ -1,0 +1,40 @@
+// Words of the rows: document 01, VCPU rows of four words and task rows of twenty. The count of ones
+// in a task's set picks its cost, and that of two sets in common gives the colours reloaded.
+ghost use mathlib.Core.Path.{_≡_};
+ghost use lib.ListN.{getD};
+ghost use Rattle.plan.specs.Rows.{vcpuWord, taskWord, cost as costOf, colours-shared};
+
+fn word_at(words: &[u32], at: usize) -> u32
+    ensures { λ r. ⌜ r ≡ getD (now (words .entry)) at 0 ⌝ }
+{
+    if at < words.len() { words[at] } else { 0 }
+}
+
+// Word k of a VCPU's row.
+pub fn vcpu_word(vcpus: &[u32], row: u32, k: u32) -> u32
+    ensures { λ r. ⌜ r ≡ vcpuWord (now (vcpus .entry)) row k ⌝ }
+{
+    word_at(vcpus, 4 * (row as usize) + k as usize)
+}
+
+// Word k of a task's row.
+pub fn task_word(tasks: &[u32], row: u32, k: u32) -> u32
+    ensures { λ r. ⌜ r ≡ taskWord (now (tasks .entry)) row k ⌝ }
+{
+    word_at(tasks, 20 * (row as usize) + k as usize)
+}
+
+// The cost of a task with the colours that it holds.
+pub fn cost(tasks: &[u32], row: u32) -> u32
+    ensures { λ r. ⌜ r ≡ costOf (now (tasks .entry)) row ⌝ }
+{
+    let k = u32::count_ones(task_word(tasks, row, 3));
+    task_word(tasks, row, 3 + k)
+}
+
+// How many colours tasks i and j both hold.
+pub fn shared(tasks: &[u32], i: u32, j: u32) -> u32
+    ensures { λ r. ⌜ r ≡ colours-shared (now (tasks .entry)) i j ⌝ }
+{
+    u32::count_ones(task_word(tasks, j, 3) & task_word(tasks, i, 3))
+}
