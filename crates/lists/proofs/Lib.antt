@@ -1,4 +1,5 @@
 -- The laws of `lists`, for every crate's proofs.
 pub mod Split
 pub mod Kept
+pub mod Sought
 pub mod Members
