@@ -10,7 +10,8 @@ use borrow.Author.Tests.{lt-ltb, le-ltb}
 use Rattle.lists.specs.Choice.{if_then_else_}
 use Rattle.lists.specs.Range.{from, keep, headOr, lowest}
 use Rattle.lists.proofs.Split.{cases}
-use Rattle.refusal.specs.Reply.{Answers, Refuses, Test, each, unless}
+use Rattle.refusal.specs.Reply.{Answers, Refuses, Test, each, unless, passes}
+use Rattle.refusal.proofs.Replies.{passed-first}
 
 module _ {A B : Type 0} (a : A) (b : B) where
   -- a refusal among the first tests is the reply
@@ -45,3 +46,9 @@ module _ {A : Type 0} (n number : ℕ) (f : ℕ → Bool) (rest : List Test) (a 
       unless (each n number f ++ rest) a ≡ (if ltb (lowest f n) n then Refuses number (lowest f n) else unless rest a)
   unfolding each lowest
   unless-each = rows n 0 (zero-add n)
+
+-- where no test of two lists fails, none of the second does
+pub passed-later : (xs ys : List Test) → passes (xs ++ ys) ≡ true → passes ys ≡ true
+unfolding passes
+passed-later [] ys e = e
+passed-later (t ∷ ts) ys e = passed-later ts ys (passed-first t (ts ++ ys) e .1)
