@@ -1,0 +1,4 @@
+-- The definitions of `frames`: the answers in document 01's numbers, and what its loops look for.
+pub mod Paper
+pub mod Checks
+pub mod Scan
