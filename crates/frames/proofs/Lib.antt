@@ -1,2 +1,4 @@
 -- The laws of `frames`.
 pub mod Masks
+pub mod Called
+pub mod Pages

@@ -2,4 +2,5 @@
 pub mod Split
 pub mod Kept
 pub mod Sought
+pub mod Found
 pub mod Members

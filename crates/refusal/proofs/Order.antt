@@ -52,3 +52,11 @@ pub passed-later : (xs ys : List Test) → passes (xs ++ ys) ≡ true → passes
 unfolding passes
 passed-later [] ys e = e
 passed-later (t ∷ ts) ys e = passed-later ts ys (passed-first t (ts ++ ys) e .1)
+
+-- and none of the first
+pub passed-earlier : (xs ys : List Test) → passes (xs ++ ys) ≡ true → passes xs ≡ true
+unfolding passes
+passed-earlier [] ys e = refl
+passed-earlier (t ∷ ts) ys e =
+    let first = passed-first t (ts ++ ys) e in
+    rw (first .0) (passed-earlier ts ys (first .1))
