@@ -11,7 +11,7 @@ use Rattle.lists.specs.Range.{upto, keep, lowest, isEmpty, headOr}
 use Rattle.lists.proofs.Split.{below-or-not, neither}
 use Rattle.lists.proofs.Kept.{ahead, ahead-start, ahead-take}
 use Rattle.lists.proofs.Sought.{sought, sought-start}
-use Rattle.lists.proofs.Found.{Found, found, missed, missed-list, none-kept, ahead-past}
+use Rattle.lists.proofs.Found.{Found, found, missed, missed-list, none-kept, ahead-past, sought-le}
 use Rattle.refusal.specs.Reply.{Answers, test, unless}
 use Rattle.board.specs.declared.Board.{Board}
 use Rattle.board.specs.Tests.{activeSet}
@@ -98,6 +98,9 @@ module _ (b : Board) (t : List ℕ) (d p : ℕ) (ok : pageReply b (length t) d p
 
   abbrev pub first : ℕ
   first = lowest stops n
+
+  pub first-le : first ≤ n
+  first-le = rw (sought-start stops n) (sought-le stops 0 n zero-le)
 
   pub fault-none : n ≤ first → fault s d p ≡ refused s 12 0
   unfolding unless settle

@@ -8,6 +8,8 @@ use Rattle.frames.specs.declared.mapping.Faulted.{Faulted}
 use Rattle.frames.specs.declared.mapping.Faulted.the-variants.{Old as FaultedOld, New as FaultedNew, Refused as FaultedRefused}
 use Rattle.frames.specs.declared.mapping.Released.{Released}
 use Rattle.frames.specs.declared.mapping.Released.the-variants.{Frame as ReleasedFrame, Refused as ReleasedRefused}
+use Rattle.frames.specs.declared.recolouring.ActiveColours.{ActiveColours}
+use Rattle.frames.specs.declared.recolouring.ActiveColours.the-variants.{Set as ActiveSet, Refused as ActiveRefused}
 
 abbrev pub paperLooked : Looked → Reply Answer
 paperLooked (LookedFrame f) = Answers (Mapped f)
@@ -22,3 +24,7 @@ paperFaulted (FaultedRefused r) = Refuses (r .number) (r .row)
 abbrev pub paperReleased : Released → Reply Answer
 paperReleased (ReleasedFrame f) = Answers (Freed f)
 paperReleased (ReleasedRefused r) = Refuses (r .number) (r .row)
+
+abbrev pub paperActive : ActiveColours → Reply Answer
+paperActive (ActiveSet s) = Answers (Active s)
+paperActive (ActiveRefused r) = Refuses (r .number) (r .row)

@@ -2,6 +2,7 @@
 // they mean is said in `calls`; this crate runs them on a lent table and a board by value. No
 // function here requires anything of its caller.
 mod mapping;
+mod recolouring;
 mod scan;
 
 pub use mapping::Faulted;
@@ -10,3 +11,5 @@ pub use mapping::Released;
 pub use mapping::fault;
 pub use mapping::look;
 pub use mapping::release;
+pub use recolouring::ActiveColours;
+pub use recolouring::colours;

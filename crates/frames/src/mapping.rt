@@ -9,6 +9,7 @@ ghost use Rattle.frames.specs.Checks.{pageReply};
 use board::Board;
 use board::Checked;
 use board::check_call;
+use crate::recolouring::active_set;
 use crate::scan::next_word;
 use crate::scan::word_for;
 use crate::scan::word_or_free;
@@ -75,10 +76,9 @@ pub fn fault(board: Board, table: &mut [u16], domain: u32, page: u32) -> Faulted
     if let Checked::Refused(refusal) = check_page(board, table.len(), domain, page) {
         return Faulted::Refused(refusal);
     }
-    let active = board.active;
-    let d = domain as usize;
     let word = word_for(domain, page);
-    let first = word_or_free(table, word, board.colours as usize, active[d] as usize);
+    let set = active_set(board, domain) as usize;
+    let first = word_or_free(table, word, board.colours as usize, set);
     if first == table.len() {
         return Faulted::Refused(Refusal { number: 12, row: 0 });
     }

@@ -71,13 +71,15 @@ same-length : tie.Need-same-length
 same-length c = search needs
 
 returns-2 : tie.Need-returns-2
-returns-2 c = 
-    let is = found-is (c .before) in
-    let e = release-unmapped _ _ _ _ (ok (c .before .before .before .before)) (omega arith) in
+returns-2 c =
+    let a = c .before .before .before .before .before .before .before .before .args in
+    let t : List ℕ = a .table .now in
+    let none : length t ≤ sought (wordAt t (wordOf (a .domain) (a .page))) 0 (length t) = omega (arith, found-is (c .before)) in
+    let e = release-unmapped _ _ _ _ (ok (c .before .before .before .before)) none in
     (sym (ap (λ (o : Outcome). o .reply) e), sym (ap (λ (o : Outcome). o .next .table) e))
 
 mul-table : tie.Need-mul-table
-mul-table c = omega arith
+mul-table c = omega (arith, below c)
 
 slice-write-table : tie.Need-slice-write-table
 slice-write-table c = below c
