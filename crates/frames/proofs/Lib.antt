@@ -2,3 +2,5 @@
 pub mod Masks
 pub mod Called
 pub mod Pages
+pub mod Step
+pub mod Going

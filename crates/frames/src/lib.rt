@@ -2,6 +2,7 @@
 // they mean is said in `calls`; this crate runs them on a lent table and a board by value. No
 // function here requires anything of its caller.
 mod mapping;
+mod moving;
 mod recolouring;
 mod scan;
 

@@ -3,4 +3,5 @@ pub mod Split
 pub mod Kept
 pub mod Sought
 pub mod Found
+pub mod Same
 pub mod Members

@@ -19,3 +19,7 @@ and-both false b e = (e, cc)
 pub neither : (a b : Bool) → (a || b) ≡ false → (a ≡ false) × (b ≡ false)
 neither true b e = (e, cc)
 neither false b e = (refl, e)
+
+pub and-never : (a : Bool) → (a && false) ≡ false
+and-never true = refl
+and-never false = refl
