@@ -4,3 +4,4 @@ pub mod Called
 pub mod Pages
 pub mod Step
 pub mod Going
+pub mod Recolours

@@ -10,6 +10,8 @@ use Rattle.frames.specs.declared.mapping.Released.{Released}
 use Rattle.frames.specs.declared.mapping.Released.the-variants.{Frame as ReleasedFrame, Refused as ReleasedRefused}
 use Rattle.frames.specs.declared.recolouring.ActiveColours.{ActiveColours}
 use Rattle.frames.specs.declared.recolouring.ActiveColours.the-variants.{Set as ActiveSet, Refused as ActiveRefused}
+use Rattle.frames.specs.declared.recolouring.Moved.{Moved as MovedAnswer}
+use Rattle.frames.specs.declared.recolouring.Moved.the-variants.{Count as MovedCount, Refused as MovedRefused}
 
 abbrev pub paperLooked : Looked → Reply Answer
 paperLooked (LookedFrame f) = Answers (Mapped f)
@@ -28,3 +30,7 @@ paperReleased (ReleasedRefused r) = Refuses (r .number) (r .row)
 abbrev pub paperActive : ActiveColours → Reply Answer
 paperActive (ActiveSet s) = Answers (Active s)
 paperActive (ActiveRefused r) = Refuses (r .number) (r .row)
+
+abbrev pub paperMoved : MovedAnswer → Reply Answer
+paperMoved (MovedCount n) = Answers (Moved n)
+paperMoved (MovedRefused r) = Refuses (r .number) (r .row)

@@ -13,4 +13,7 @@ pub use mapping::fault;
 pub use mapping::look;
 pub use mapping::release;
 pub use recolouring::ActiveColours;
+pub use recolouring::Moved;
+pub use recolouring::Recoloured;
 pub use recolouring::colours;
+pub use recolouring::recolour;
