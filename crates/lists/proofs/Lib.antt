@@ -1,5 +1,8 @@
 -- The laws of `lists`, for every crate's proofs.
 pub mod Split
 pub mod Kept
+pub mod Sought
+pub mod Found
+pub mod Same
 pub mod Members
 pub mod Filter

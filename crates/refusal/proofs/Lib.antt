@@ -1,2 +1,3 @@
 -- The laws of `refusal`, for the crates above it.
 pub mod Replies
+pub mod Order

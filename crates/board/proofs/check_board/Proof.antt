@@ -1,0 +1,75 @@
+-- `board::check_board` meets its contract: each return has the tests that led there.
+use mathlib.Core.Bool.{true, false, not, _||_}
+use mathlib.Core.Logic.{⊎-elim}
+use mathlib.Core.Path.{_≡_, sym, _∙_}
+use lib.Dec.{eqb, ltb}
+use borrow.Author.Tests.{lt-ltb, le-ltb, eq-eqb, ne-eqb, not-true, not-false}
+use Rattle.refusal.specs.Reply.{unless}
+use Rattle.colours.specs.Cache.{isColourCount}
+use Rattle.board.specs.Tests.{boardReply, boardTests, sizeTests}
+use borrow.Author.Needs.{needs}
+use Rattle.board.proofs.check_board.Statement.{statement}
+use Rattle.board.proofs.check_board.Tie as tie
+use Rattle.board.proofs.check_board.Reads as reads
+use Rattle.board.proofs.check_board.Lts as lts
+use Rattle.board.proofs.domains.check_domains.Reads as check-domains-reads
+use Rattle.colours.proofs.is_colour_count.Reads as is-colour-count-reads
+
+passes-2 : (c : tie.Else1) → isColourCount (c .before .before .args .board .colours) ≡ true
+passes-2 c = sym (c .before .is-colour-count .ensures) ∙ not-false _ (c .if1 .left)
+
+passes-3 :
+    (c : tie.Else4)
+    → (eqb (c .before .before .before .before .before .args .board .frames) 0
+    || (ltb 4096 (c .before .before .before .before .before .args .board .frames)
+    || not (eqb (c .before .before .before .before .before .args .words) (c .before .before .before .before .before .args .board .frames))))
+    ≡ false
+passes-3 c = simp (ne-eqb _ _ (c .before .before .if2 .left), c .before .if3 .left, c .if4 .left)
+
+is-colour-count-requires : tie.Need-is-colour-count-requires
+is-colour-count-requires c κs = search needs
+
+returns : tie.Need-returns
+unfolding boardReply boardTests sizeTests unless
+returns c = simp (sym (c .before .is-colour-count .ensures) ∙ not-true _ (c .if1 .taken))
+
+cast-if4 : tie.Need-cast-if4
+cast-if4 c = search needs
+
+returns-2 : tie.Need-returns-2
+unfolding boardReply boardTests sizeTests unless
+returns-2 c =
+    let two = passes-2 (c .before) in
+    ⊎-elim (λ w. simp (two, eq-eqb _ _ (w .taken)))
+    (⊎-elim (λ w. simp (two, ne-eqb _ _ (w .0 .left), w .1 .taken))
+    (λ w. simp (two, ne-eqb _ _ (w .0 .left), w .1 .left, w .2 .taken)))
+    (c .if2 .came)
+
+returns-3 : tie.Need-returns-3
+unfolding boardReply boardTests sizeTests unless
+returns-3 c =
+    let two = passes-2 (c .before .before .before .before) in
+    ⊎-elim (λ w. simp (two, passes-3 (c .before), eq-eqb _ _ (w .taken)))
+    (λ w. simp (two, passes-3 (c .before), ne-eqb _ _ (w .0 .left), w .1 .taken))
+    (c .if5 .came)
+
+check-domains-requires : tie.Need-check-domains-requires
+check-domains-requires c κs = search needs
+
+returns-4 : tie.Need-returns-4
+unfolding boardReply boardTests sizeTests unless
+returns-4 c =
+    let two = passes-2 (c .before .before .before .before .before .before) in
+    simp (two, passes-3 (c .before .before .before), ne-eqb _ _ (c .before .before .if5 .left), c .before .if6 .left, c .check-domains .ensures)
+
+pub check-board-spec : {M : Type 1} → statement M
+check-board-spec =
+    tie.close
+    (tie.spec
+    is-colour-count-requires
+    returns
+    cast-if4
+    returns-2
+    returns-3
+    check-domains-requires
+    returns-4)

@@ -1,0 +1,88 @@
+-- `board::domains::shares_with_another` meets its contract. The invariant: whether another shares a bit is asked from `e` on.
+use Prim.Native.Nat.{ℕ, _-_, _≤_}
+use native.Mathlib.Omega.{arith}
+use mathlib.Core.Bool.{Bool, true, false, not, _&&_}
+use mathlib.Core.Logic.{⊎-elim}
+use mathlib.Core.Path.{_≡_, sym, ap, _∙_}
+use borrow.Author.Needs.{needs}
+use borrow.Author.Tests.{eq-eqb, ne-eqb}
+use lib.Dec.{eqb}
+use lib.ListN.{length, getD}
+use Rattle.board.specs.declared.Board.{Board}
+use Rattle.lists.proofs.Sought.{anyAhead, any-start, any-hit, any-miss, any-end}
+use Rattle.board.specs.Tests.{grant, shares, sharesWithAnother}
+use Rattle.board.proofs.domains.shares_with_another.Statement.{statement}
+use Rattle.board.proofs.domains.shares_with_another.Tie as tie
+use Rattle.board.proofs.domains.shares_with_another.Reads as reads
+use Rattle.board.proofs.domains.shares_with_another.Lts as lts
+
+abbrev sharing : Board → ℕ → ℕ → Bool
+sharing b d i = not (eqb i d) && shares (grant b d) (grant b i)
+
+abbrev Inv-loop : tie.InvT-loop
+Inv-loop board d grants k mine e₀ e = (e ≤ board .domains) × (sharesWithAnother board d ≡ anyAhead (sharing board d) e (board .domains))
+
+abbrev μ-loop : tie.MeasureT-loop
+μ-loop board d grants k mine e₀ e = board .domains - e
+
+mul-mine : tie.Need-mul-mine Inv-loop μ-loop
+mul-mine c = omega arith
+
+array-read-mine : tie.Need-array-read-mine Inv-loop μ-loop
+array-read-mine c = omega arith
+
+loop-holds : tie.Need-loop-holds Inv-loop μ-loop
+loop-holds c = let b = c .before .args .board in (omega arith, any-start (sharing b (c .before .args .d)) (b .domains))
+
+cast-j : tie.Need-cast-j Inv-loop μ-loop
+cast-j c = omega arith
+
+mul-if3 : tie.Need-mul-if3 Inv-loop μ-loop
+mul-if3 c = omega arith
+
+array-read-if3 : tie.Need-array-read-if3 Inv-loop μ-loop
+array-read-if3 c = omega arith
+
+returns : tie.Need-returns Inv-loop μ-loop
+returns c =
+    let a = c .before .before .before .before .before .before .args in
+    let h = c .before .before .before .before .loop in
+    let here : sharing (a .board) (a .d) (h .e) ≡ true = simp (ne-eqb _ _ (c .before .if2 .taken), c .if3 .taken) in
+    sym (h .inv .1 ∙ any-hit (sharing (a .board) (a .d)) (h .e) (a .board .domains) (omega arith) here)
+
+add-e : tie.Need-add-e Inv-loop μ-loop
+add-e c = omega arith
+
+loop-less : tie.Need-loop-less Inv-loop μ-loop
+loop-less c = omega arith
+
+loop-again : tie.Need-loop-again Inv-loop μ-loop
+loop-again c =
+    let a = c .before .before .before .before .before .args in
+    let h = c .before .before .before .loop in
+    let here : sharing (a .board) (a .d) (h .e) ≡ false = ⊎-elim (λ w. simp (ne-eqb _ _ (w .0 .taken), w .1 .left)) (λ w. simp (eq-eqb _ _ (w .left))) (c .if2 .came) in
+    (omega arith, h .inv .1 ∙ any-miss (sharing (a .board) (a .d)) (h .e) (a .board .domains) (omega arith) here)
+
+returns-2 : tie.Need-returns-2 Inv-loop μ-loop
+returns-2 c =
+    let a = c .before .before .before .before .args in
+    let h = c .before .before .loop in
+    sym (h .inv .1 ∙ any-end (sharing (a .board) (a .d)) (h .e) (a .board .domains) (omega arith))
+
+pub shares-with-another-spec : {M : Type 1} → statement M
+shares-with-another-spec =
+    tie.close
+    (tie.spec
+    Inv-loop
+    μ-loop
+    mul-mine
+    array-read-mine
+    loop-holds
+    cast-j
+    mul-if3
+    array-read-if3
+    returns
+    add-e
+    loop-less
+    loop-again
+    returns-2)

@@ -1,0 +1,91 @@
+-- `frames::scan::next_stray` meets its contract. The invariant: the frame sought is sought from `f` on.
+use Prim.Native.Nat.{ℕ, _+_, _-_, _≤_, _<_}
+use native.Mathlib.Omega.{arith}
+use mathlib.Core.Bool.{true, false}
+use mathlib.Core.List.{List}
+use mathlib.Core.Logic.{⊎-elim}
+use mathlib.Core.Path.{_≡_, refl, sym, ap, _∙_}
+use borrow.Author.Needs.{needs}
+use borrow.Author.Tests.{eq-eqb, ne-eqb, le-leb, lt-leb}
+use lib.ListN.{length, getD}
+use Rattle.lists.proofs.Sought.{sought, sought-start, sought-hit, sought-miss, sought-end}
+use Rattle.calls.specs.Table.{wordOf}
+use Rattle.frames.specs.Scan.{strayOf}
+use Rattle.frames.proofs.scan.next_stray.Statement.{statement}
+use Rattle.frames.proofs.scan.next_stray.Tie as tie
+use Rattle.frames.proofs.scan.next_stray.Reads as reads
+use Rattle.frames.proofs.scan.next_stray.Lts as lts
+use Rattle.frames.proofs.scan.is_stray.Reads as is-stray-reads
+use Rattle.frames.proofs.scan.word_for.Reads as word-for-reads
+
+abbrev Inv-loop : tie.InvT-loop
+Inv-loop table start domain colours set first last f₀ f = (f ≤ length table) × (sought (strayOf table domain colours set) start (length table) ≡ sought (strayOf table domain colours set) f (length table))
+
+abbrev μ-loop : tie.MeasureT-loop
+μ-loop table start domain colours set first last f₀ f = length table - f
+
+word-for-requires : tie.Need-word-for-requires Inv-loop μ-loop
+word-for-requires c κs = search needs
+
+word-for-requires-2 : tie.Need-word-for-requires-2 Inv-loop μ-loop
+word-for-requires-2 c κs = search needs
+
+loop-holds : tie.Need-loop-holds Inv-loop μ-loop
+loop-holds c = (omega arith, refl)
+
+mul-is-stray : tie.Need-mul-is-stray Inv-loop μ-loop
+mul-is-stray c = omega arith
+
+shared-slice-read-is-stray : tie.Need-shared-slice-read-is-stray Inv-loop μ-loop
+shared-slice-read-is-stray c = omega arith
+
+is-stray-requires : tie.Need-is-stray-requires Inv-loop μ-loop
+is-stray-requires c κs = search needs
+
+returns : tie.Need-returns Inv-loop μ-loop
+returns c =
+    let a = c .before .before .before .before .before .before .before .before .args in
+    let t : List ℕ = a .table .now in
+    let h = c .before .before .before .before .loop in
+    let here : strayOf t (a .domain) (a .colours) (a .set) (h .f) ≡ true = rw (← c .before .before .before .before .before .before .word-for .ensures, ← c .before .before .before .before .before .word-for2 .ensures) (sym (c .before .is-stray .ensures) ∙ c .if1 .taken) in
+    sym (h .inv .1 ∙ sought-hit (strayOf t (a .domain) (a .colours) (a .set)) (h .f) (length t) (omega arith) here)
+
+add-f : tie.Need-add-f Inv-loop μ-loop
+add-f c = omega arith
+
+loop-less : tie.Need-loop-less Inv-loop μ-loop
+loop-less c = omega arith
+
+loop-again : tie.Need-loop-again Inv-loop μ-loop
+loop-again c =
+    let a = c .before .before .before .before .before .before .before .before .args in
+    let t : List ℕ = a .table .now in
+    let h = c .before .before .before .before .loop in
+    let here : strayOf t (a .domain) (a .colours) (a .set) (h .f) ≡ false = rw (← c .before .before .before .before .before .before .word-for .ensures, ← c .before .before .before .before .before .word-for2 .ensures) (sym (c .before .is-stray .ensures) ∙ c .if1 .left) in
+    (omega arith, h .inv .1 ∙ sought-miss (strayOf t (a .domain) (a .colours) (a .set)) (h .f) (length t) (omega arith) here)
+
+returns-2 : tie.Need-returns-2 Inv-loop μ-loop
+returns-2 c =
+    let a = c .before .before .before .before .before .args in
+    let t : List ℕ = a .table .now in
+    let h = c .before .loop in
+    let done : h .f ≡ length t = omega arith in
+    done ∙ sym (h .inv .1 ∙ sought-end (strayOf t (a .domain) (a .colours) (a .set)) (h .f) (length t) (omega arith))
+
+pub next-stray-spec : {M : Type 1} → statement M
+next-stray-spec =
+    tie.close
+    (tie.spec
+    Inv-loop
+    μ-loop
+    word-for-requires
+    word-for-requires-2
+    loop-holds
+    mul-is-stray
+    shared-slice-read-is-stray
+    is-stray-requires
+    returns
+    add-f
+    loop-less
+    loop-again
+    returns-2)

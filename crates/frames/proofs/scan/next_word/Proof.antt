@@ -1,0 +1,76 @@
+-- `frames::scan::next_word` meets its contract. The invariant: the frame sought is sought from `f` on.
+use Prim.Native.Nat.{ℕ, _+_, _-_, _≤_, _<_}
+use native.Mathlib.Omega.{arith}
+use mathlib.Core.Bool.{true, false}
+use mathlib.Core.List.{List}
+use mathlib.Core.Logic.{⊎-elim}
+use mathlib.Core.Path.{_≡_, refl, sym, ap, _∙_}
+use borrow.Author.Needs.{needs}
+use borrow.Author.Tests.{eq-eqb, ne-eqb, le-leb, lt-leb}
+use lib.ListN.{length, getD}
+use Rattle.lists.proofs.Sought.{sought, sought-start, sought-hit, sought-miss, sought-end}
+use Rattle.frames.specs.Scan.{wordAt}
+use Rattle.frames.proofs.scan.next_word.Statement.{statement}
+use Rattle.frames.proofs.scan.next_word.Tie as tie
+use Rattle.frames.proofs.scan.next_word.Reads as reads
+use Rattle.frames.proofs.scan.next_word.Lts as lts
+
+abbrev Inv-loop : tie.InvT-loop
+Inv-loop table start word f₀ f = (f ≤ length table) × (sought (wordAt table word) start (length table) ≡ sought (wordAt table word) f (length table))
+
+abbrev μ-loop : tie.MeasureT-loop
+μ-loop table start word f₀ f = length table - f
+
+loop-holds : tie.Need-loop-holds Inv-loop μ-loop
+loop-holds c = (omega arith, refl)
+
+mul-if1 : tie.Need-mul-if1 Inv-loop μ-loop
+mul-if1 c = omega arith
+
+shared-slice-read-if1 : tie.Need-shared-slice-read-if1 Inv-loop μ-loop
+shared-slice-read-if1 c = omega arith
+
+returns : tie.Need-returns Inv-loop μ-loop
+returns c =
+    let a = c .before .before .before .before .args in
+    let t : List ℕ = a .table .now in
+    let h = c .before .before .before .loop in
+    let here : wordAt t (a .word) (h .f) ≡ true = eq-eqb _ _ (c .if1 .taken) in
+    sym (h .inv .1 ∙ sought-hit (wordAt t (a .word)) (h .f) (length t) (omega arith) here)
+
+add-f : tie.Need-add-f Inv-loop μ-loop
+add-f c = omega arith
+
+loop-less : tie.Need-loop-less Inv-loop μ-loop
+loop-less c = omega arith
+
+loop-again : tie.Need-loop-again Inv-loop μ-loop
+loop-again c =
+    let a = c .before .before .before .before .args in
+    let t : List ℕ = a .table .now in
+    let h = c .before .before .before .loop in
+    let here : wordAt t (a .word) (h .f) ≡ false = ne-eqb _ _ (c .if1 .left) in
+    (omega arith, h .inv .1 ∙ sought-miss (wordAt t (a .word)) (h .f) (length t) (omega arith) here)
+
+returns-2 : tie.Need-returns-2 Inv-loop μ-loop
+returns-2 c =
+    let a = c .before .before .args in
+    let t : List ℕ = a .table .now in
+    let h = c .before .loop in
+    let done : h .f ≡ length t = omega arith in
+    done ∙ sym (h .inv .1 ∙ sought-end (wordAt t (a .word)) (h .f) (length t) (omega arith))
+
+pub next-word-spec : {M : Type 1} → statement M
+next-word-spec =
+    tie.close
+    (tie.spec
+    Inv-loop
+    μ-loop
+    loop-holds
+    mul-if1
+    shared-slice-read-if1
+    returns
+    add-f
+    loop-less
+    loop-again
+    returns-2)

@@ -1,0 +1,99 @@
+-- `frames::scan::word_or_free` meets its contract. The invariant: the frame sought is sought from `f` on.
+use Prim.Native.Nat.{ℕ, _+_, _-_, _≤_, _<_}
+use native.Mathlib.Omega.{arith}
+use mathlib.Core.Bool.{true, false}
+use mathlib.Core.List.{List}
+use mathlib.Core.Logic.{⊎-elim}
+use mathlib.Core.Path.{_≡_, refl, sym, ap, _∙_}
+use borrow.Author.Needs.{needs}
+use borrow.Author.Tests.{eq-eqb, ne-eqb, le-leb, lt-leb}
+use lib.ListN.{length, getD}
+use Rattle.lists.specs.Range.{lowest}
+use Rattle.lists.proofs.Sought.{sought, sought-start, sought-hit, sought-miss, sought-end}
+use Rattle.frames.specs.Scan.{stop}
+use Rattle.frames.proofs.scan.word_or_free.Statement.{statement}
+use Rattle.frames.proofs.scan.word_or_free.Tie as tie
+use Rattle.frames.proofs.scan.word_or_free.Reads as reads
+use Rattle.frames.proofs.scan.word_or_free.Lts as lts
+use Rattle.frames.proofs.scan.is_free_in.Reads as is-free-in-reads
+
+abbrev Inv-loop : tie.InvT-loop
+Inv-loop table word colours set f₀ f = (f ≤ length table) × (lowest (stop table word colours set) (length table) ≡ sought (stop table word colours set) f (length table))
+
+abbrev μ-loop : tie.MeasureT-loop
+μ-loop table word colours set f₀ f = length table - f
+
+loop-holds : tie.Need-loop-holds Inv-loop μ-loop
+loop-holds c = let a = c .before .args in (omega arith, sought-start (stop (a .table .now) (a .word) (a .colours) (a .set)) (length (a .table .now)))
+
+mul-if1 : tie.Need-mul-if1 Inv-loop μ-loop
+mul-if1 c = omega arith
+
+shared-slice-read-if1 : tie.Need-shared-slice-read-if1 Inv-loop μ-loop
+shared-slice-read-if1 c = omega arith
+
+returns : tie.Need-returns Inv-loop μ-loop
+returns c =
+    let a = c .before .before .before .before .before .args in
+    let t : List ℕ = a .table .now in
+    let h = c .before .before .before .loop in
+    let here : stop t (a .word) (a .colours) (a .set) (h .f) ≡ true = simp (eq-eqb _ _ (c .if1 .taken)) in
+    sym (h .inv .1 ∙ sought-hit (stop t (a .word) (a .colours) (a .set)) (h .f) (length t) (omega arith) here)
+
+mul-is-free-in : tie.Need-mul-is-free-in Inv-loop μ-loop
+mul-is-free-in c = omega arith
+
+shared-slice-read-is-free-in : tie.Need-shared-slice-read-is-free-in Inv-loop μ-loop
+shared-slice-read-is-free-in c = omega arith
+
+is-free-in-requires : tie.Need-is-free-in-requires Inv-loop μ-loop
+is-free-in-requires c κs = search needs
+
+returns-2 : tie.Need-returns-2 Inv-loop μ-loop
+returns-2 c =
+    let a = c .before .before .before .before .before .before .before .before .args in
+    let t : List ℕ = a .table .now in
+    let h = c .before .before .before .before .before .before .loop in
+    let here : stop t (a .word) (a .colours) (a .set) (h .f) ≡ true = rw (ne-eqb _ _ (c .before .before .before .if1 .left)) (sym (c .before .is-free-in .ensures) ∙ c .if2 .taken) in
+    sym (h .inv .1 ∙ sought-hit (stop t (a .word) (a .colours) (a .set)) (h .f) (length t) (omega arith) here)
+
+add-f : tie.Need-add-f Inv-loop μ-loop
+add-f c = omega arith
+
+loop-less : tie.Need-loop-less Inv-loop μ-loop
+loop-less c = omega arith
+
+loop-again : tie.Need-loop-again Inv-loop μ-loop
+loop-again c =
+    let a = c .before .before .before .before .before .before .before .before .args in
+    let t : List ℕ = a .table .now in
+    let h = c .before .before .before .before .before .before .loop in
+    let here : stop t (a .word) (a .colours) (a .set) (h .f) ≡ false = rw (ne-eqb _ _ (c .before .before .before .if1 .left)) (sym (c .before .is-free-in .ensures) ∙ c .if2 .left) in
+    (omega arith, h .inv .1 ∙ sought-miss (stop t (a .word) (a .colours) (a .set)) (h .f) (length t) (omega arith) here)
+
+returns-3 : tie.Need-returns-3 Inv-loop μ-loop
+returns-3 c =
+    let a = c .before .before .before .args in
+    let t : List ℕ = a .table .now in
+    let h = c .before .loop in
+    let done : h .f ≡ length t = omega arith in
+    done ∙ sym (h .inv .1 ∙ sought-end (stop t (a .word) (a .colours) (a .set)) (h .f) (length t) (omega arith))
+
+pub word-or-free-spec : {M : Type 1} → statement M
+word-or-free-spec =
+    tie.close
+    (tie.spec
+    Inv-loop
+    μ-loop
+    loop-holds
+    mul-if1
+    shared-slice-read-if1
+    returns
+    mul-is-free-in
+    shared-slice-read-is-free-in
+    is-free-in-requires
+    returns-2
+    add-f
+    loop-less
+    loop-again
+    returns-3)

@@ -1,0 +1,36 @@
+-- The answers of the five calls in document 01's numbers: for each case of an answer what the paper calls it, or the refusal's number
+-- and row.
+use Rattle.refusal.specs.Reply.{Reply, Answers, Refuses}
+use Rattle.calls.specs.Calls.{Answer, Mapped, Unmapped, Old, New, Freed, Active, Moved}
+use Rattle.frames.specs.declared.mapping.Looked.{Looked}
+use Rattle.frames.specs.declared.mapping.Looked.the-variants.{Frame as LookedFrame, Unmapped as LookedUnmapped, Refused as LookedRefused}
+use Rattle.frames.specs.declared.mapping.Faulted.{Faulted}
+use Rattle.frames.specs.declared.mapping.Faulted.the-variants.{Old as FaultedOld, New as FaultedNew, Refused as FaultedRefused}
+use Rattle.frames.specs.declared.mapping.Released.{Released}
+use Rattle.frames.specs.declared.mapping.Released.the-variants.{Frame as ReleasedFrame, Refused as ReleasedRefused}
+use Rattle.frames.specs.declared.recolouring.ActiveColours.{ActiveColours}
+use Rattle.frames.specs.declared.recolouring.ActiveColours.the-variants.{Set as ActiveSet, Refused as ActiveRefused}
+use Rattle.frames.specs.declared.recolouring.Moved.{Moved as MovedAnswer}
+use Rattle.frames.specs.declared.recolouring.Moved.the-variants.{Count as MovedCount, Refused as MovedRefused}
+
+abbrev pub paperLooked : Looked → Reply Answer
+paperLooked (LookedFrame f) = Answers (Mapped f)
+paperLooked LookedUnmapped = Answers Unmapped
+paperLooked (LookedRefused r) = Refuses (r .number) (r .row)
+
+abbrev pub paperFaulted : Faulted → Reply Answer
+paperFaulted (FaultedOld f) = Answers (Old f)
+paperFaulted (FaultedNew f) = Answers (New f)
+paperFaulted (FaultedRefused r) = Refuses (r .number) (r .row)
+
+abbrev pub paperReleased : Released → Reply Answer
+paperReleased (ReleasedFrame f) = Answers (Freed f)
+paperReleased (ReleasedRefused r) = Refuses (r .number) (r .row)
+
+abbrev pub paperActive : ActiveColours → Reply Answer
+paperActive (ActiveSet s) = Answers (Active s)
+paperActive (ActiveRefused r) = Refuses (r .number) (r .row)
+
+abbrev pub paperMoved : MovedAnswer → Reply Answer
+paperMoved (MovedCount n) = Answers (Moved n)
+paperMoved (MovedRefused r) = Refuses (r .number) (r .row)

@@ -1,0 +1,19 @@
+// The five calls on the frame table: document 01, "Board and frame table" and refusals 2 to 14. What
+// they mean is said in `calls`; this crate runs them on a lent table and a board by value. No
+// function here requires anything of its caller.
+mod mapping;
+mod moving;
+mod recolouring;
+mod scan;
+
+pub use mapping::Faulted;
+pub use mapping::Looked;
+pub use mapping::Released;
+pub use mapping::fault;
+pub use mapping::look;
+pub use mapping::release;
+pub use recolouring::ActiveColours;
+pub use recolouring::Moved;
+pub use recolouring::Recoloured;
+pub use recolouring::colours;
+pub use recolouring::recolour;

@@ -1,0 +1,110 @@
+// Look, fault and release: document 01, the frame of a domain's page, with refusals 2 to 8, 10, 12
+// and 14. First fit: of the frames that would do, the lowest.
+ghost use mathlib.Core.Path.{_≡_};
+ghost use Rattle.board.specs.Paper.{paperChecked};
+ghost use Rattle.calls.specs.Table.{stateOf};
+ghost use Rattle.calls.specs.Calls.{look as lookCall, fault as faultCall, release as releaseCall};
+ghost use Rattle.frames.specs.Paper.{paperLooked, paperFaulted, paperReleased};
+ghost use Rattle.frames.specs.Checks.{pageReply};
+use board::Board;
+use board::Checked;
+use board::check_call;
+use crate::recolouring::active_set;
+use crate::scan::next_word;
+use crate::scan::word_for;
+use crate::scan::word_or_free;
+use refusal::Refusal;
+
+const LAST_PAGE: u32 = 4095;
+
+pub enum Looked {
+    Frame(u32),
+    Unmapped,
+    Refused(Refusal),
+}
+
+pub enum Faulted {
+    Old(u32),
+    New(u32),
+    Refused(Refusal),
+}
+
+pub enum Released {
+    Frame(u32),
+    Refused(Refusal),
+}
+
+// Refusals 2 to 8 and 10.
+fn check_page(board: Board, words: usize, domain: u32, page: u32) -> Checked
+    ensures { λ r. ⌜ paperChecked r ≡ pageReply board words domain page ⌝ }
+{
+    match check_call(board, words, domain) {
+        Checked::Refused(refusal) => Checked::Refused(refusal),
+        Checked::Accepted => {
+            if LAST_PAGE < page {
+                Checked::Refused(Refusal { number: 10, row: 0 })
+            } else {
+                Checked::Accepted
+            }
+        }
+    }
+}
+
+// The lowest frame with the domain's word for the page.
+pub fn look(board: Board, table: &[u16], domain: u32, page: u32) -> Looked
+    ensures { λ r. ⌜ paperLooked r ≡ (lookCall (stateOf board (now (table .entry))) domain page) .reply ⌝ }
+{
+    match check_page(board, table.len(), domain, page) {
+        Checked::Refused(refusal) => Looked::Refused(refusal),
+        Checked::Accepted => {
+            let frame = next_word(table, 0, word_for(domain, page));
+            if frame < table.len() {
+                Looked::Frame(frame as u32)
+            } else {
+                Looked::Unmapped
+            }
+        }
+    }
+}
+
+// The frame of the page, old or new. The table is gone over once: up to the first frame that has the
+// word or could be taken, and from there on for the word alone.
+pub fn fault(board: Board, table: &mut [u16], domain: u32, page: u32) -> Faulted
+    ensures { λ r. ⌜ paperFaulted r ≡ (faultCall (stateOf board (now (table .entry))) domain page) .reply ⌝ }
+    ensures { λ r. ⌜ now (table .exit) ≡ (faultCall (stateOf board (now (table .entry))) domain page) .next .table ⌝ }
+{
+    if let Checked::Refused(refusal) = check_page(board, table.len(), domain, page) {
+        return Faulted::Refused(refusal);
+    }
+    let word = word_for(domain, page);
+    let set = active_set(board, domain) as usize;
+    let first = word_or_free(table, word, board.colours as usize, set);
+    if first == table.len() {
+        return Faulted::Refused(Refusal { number: 12, row: 0 });
+    }
+    if table[first] == word {
+        return Faulted::Old(first as u32);
+    }
+    let mapped = next_word(table, first + 1, word);
+    if mapped < table.len() {
+        return Faulted::Old(mapped as u32);
+    }
+    table[first] = word;
+    Faulted::New(first as u32)
+}
+
+// The lowest frame with the domain's word for the page becomes free.
+pub fn release(board: Board, table: &mut [u16], domain: u32, page: u32) -> Released
+    ensures { λ r. ⌜ paperReleased r ≡ (releaseCall (stateOf board (now (table .entry))) domain page) .reply ⌝ }
+    ensures { λ r. ⌜ now (table .exit) ≡ (releaseCall (stateOf board (now (table .entry))) domain page) .next .table ⌝ }
+{
+    if let Checked::Refused(refusal) = check_page(board, table.len(), domain, page) {
+        return Released::Refused(refusal);
+    }
+    let frame = next_word(table, 0, word_for(domain, page));
+    if frame == table.len() {
+        return Released::Refused(Refusal { number: 14, row: 0 });
+    }
+    table[frame] = 0;
+    Released::Frame(frame as u32)
+}

@@ -1,0 +1,145 @@
+// Loops over the frame table, in ascending order: the next frame with a word, the next free frame or
+// stray from a frame on, and how many there are. Each gives the table's length where there is none.
+ghost use mathlib.Core.Path.{_≡_};
+ghost use mathlib.Core.Bool.{true, not, _&&_};
+ghost use Prim.Native.Nat.{_≤_, _<_};
+ghost use lib.Dec.{eqb, leb};
+ghost use lib.ListN.{length};
+ghost use Rattle.lists.specs.Range.{keep, upto, lowest};
+ghost use Rattle.lists.proofs.Sought.{sought};
+ghost use Rattle.colours.specs.Cache.{isColourCount, colourOf};
+ghost use Rattle.colours.specs.Sets.{has};
+ghost use Rattle.calls.specs.Table.{wordOf};
+ghost use Rattle.frames.specs.Scan.{wordAt, freeIn, stop, strayOf};
+
+// The word of a frame that a domain holds for a page.
+pub(crate) fn word_for(domain: u32, page: u32) -> u16
+    requires { ⌜ (domain < 8) × (page ≤ 4095) ⌝ }
+    ensures { λ r. ⌜ r ≡ wordOf domain page ⌝ }
+{
+    (1 + 4096 * domain + page) as u16
+}
+
+// Whether the colour of a frame is in a set. The number of colours is a power of two, so that a mask
+// gives the remainder.
+fn in_set(colours: usize, set: usize, frame: usize) -> bool
+    requires { ⌜ isColourCount colours ≡ true ⌝ }
+    ensures { λ r. ⌜ r ≡ has set (colourOf colours frame) ⌝ }
+{
+    (set >> (frame & (colours - 1))) % 2 == 1
+}
+
+// Whether a frame with this word is free and has a colour in a set.
+fn is_free_in(word: u16, colours: usize, set: usize, frame: usize) -> bool
+    requires { ⌜ isColourCount colours ≡ true ⌝ }
+    ensures { λ r. ⌜ r ≡ (eqb word 0 && has set (colourOf colours frame)) ⌝ }
+{
+    word == 0 && in_set(colours, set, frame)
+}
+
+// Whether a frame with this word is held, with a word from `first` to `last`, outside a set.
+fn is_stray(word: u16, first: u16, last: u16, colours: usize, set: usize, frame: usize) -> bool
+    requires { ⌜ isColourCount colours ≡ true ⌝ }
+    ensures { λ r. ⌜ r ≡ ((leb first word && leb word last) && not (has set (colourOf colours frame))) ⌝ }
+{
+    first <= word && word <= last && !in_set(colours, set, frame)
+}
+
+// The lowest frame from one on that has a word.
+pub(crate) fn next_word(table: &[u16], start: usize, word: u16) -> usize
+    requires { ⌜ start ≤ length (now table) ⌝ }
+    ensures { λ r. ⌜ r ≡ sought (wordAt (now (table .entry)) word) start (length (now (table .entry))) ⌝ }
+{
+    let mut f = start;
+    while f < table.len() {
+        if table[f] == word {
+            return f;
+        }
+        f += 1;
+    }
+    f
+}
+
+// The lowest frame that has a word, or is free with a colour in a set.
+pub(crate) fn word_or_free(table: &[u16], word: u16, colours: usize, set: usize) -> usize
+    requires { ⌜ isColourCount colours ≡ true ⌝ }
+    ensures { λ r. ⌜ r ≡ lowest (stop (now (table .entry)) word colours set) (length (now (table .entry))) ⌝ }
+{
+    let mut f: usize = 0;
+    while f < table.len() {
+        if table[f] == word {
+            return f;
+        }
+        if is_free_in(table[f], colours, set, f) {
+            return f;
+        }
+        f += 1;
+    }
+    f
+}
+
+// The lowest free frame from one on with a colour in a set.
+pub(crate) fn next_free(table: &[u16], start: usize, colours: usize, set: usize) -> usize
+    requires { ⌜ (isColourCount colours ≡ true) × (start ≤ length (now table)) ⌝ }
+    ensures { λ r. ⌜ r ≡ sought (freeIn (now (table .entry)) colours set) start (length (now (table .entry))) ⌝ }
+{
+    let mut f = start;
+    while f < table.len() {
+        if is_free_in(table[f], colours, set, f) {
+            return f;
+        }
+        f += 1;
+    }
+    f
+}
+
+// The lowest frame from one on that a domain holds outside a set.
+pub(crate) fn next_stray(table: &[u16], start: usize, domain: u32, colours: usize, set: usize) -> usize
+    requires { ⌜ (isColourCount colours ≡ true) × (start ≤ length (now table)) × (domain < 8) ⌝ }
+    ensures { λ r. ⌜ r ≡ sought (strayOf (now (table .entry)) domain colours set) start (length (now (table .entry))) ⌝ }
+{
+    let first = word_for(domain, 0);
+    let last = word_for(domain, 4095);
+    let mut f = start;
+    while f < table.len() {
+        if is_stray(table[f], first, last, colours, set, f) {
+            return f;
+        }
+        f += 1;
+    }
+    f
+}
+
+// How many free frames have a colour in a set.
+pub(crate) fn count_free(table: &[u16], colours: usize, set: usize) -> usize
+    requires { ⌜ isColourCount colours ≡ true ⌝ }
+    ensures { λ r. ⌜ r ≡ length (keep (freeIn (now (table .entry)) colours set) (upto (length (now (table .entry))))) ⌝ }
+{
+    let mut n: usize = 0;
+    let mut f: usize = 0;
+    while f < table.len() {
+        if is_free_in(table[f], colours, set, f) {
+            n += 1;
+        }
+        f += 1;
+    }
+    n
+}
+
+// How many frames a domain holds outside a set.
+pub(crate) fn count_strays(table: &[u16], domain: u32, colours: usize, set: usize) -> usize
+    requires { ⌜ (isColourCount colours ≡ true) × (domain < 8) ⌝ }
+    ensures { λ r. ⌜ r ≡ length (keep (strayOf (now (table .entry)) domain colours set) (upto (length (now (table .entry))))) ⌝ }
+{
+    let first = word_for(domain, 0);
+    let last = word_for(domain, 4095);
+    let mut n: usize = 0;
+    let mut f: usize = 0;
+    while f < table.len() {
+        if is_stray(table[f], first, last, colours, set, f) {
+            n += 1;
+        }
+        f += 1;
+    }
+    n
+}

@@ -1,0 +1,102 @@
+-- What a search along a range has found: the lowest number that passes heads the list of those that do, and nothing before it passes.
+use Prim.Native.Nat.{ℕ, zero, suc, _+_, _-_, _<_, _≤_}
+use native.Mathlib.Nat.{le-refl, lt-irrefl}
+use native.Mathlib.Omega.{arith}
+use mathlib.Core.Bool.{Bool, true, false}
+use mathlib.Core.List.{[], _∷_}
+use mathlib.Core.Path.{_≡_, ap, _∙_}
+use Rattle.lists.specs.Range.{upto, keep}
+use Rattle.lists.proofs.Split.{cases, below-or-not}
+use Rattle.lists.proofs.Kept.{ahead, ahead-start, ahead-take, ahead-skip, ahead-end}
+use Rattle.lists.proofs.Sought.{sought, sought-hit, sought-miss, sought-end}
+
+module _ (p : ℕ → Bool) where
+  -- numbers that do not pass may be passed over
+  past : (k i n : ℕ) → i + k ≤ n → ((m : ℕ) → i ≤ m → m < i + k → p m ≡ false) → ahead p i n ≡ ahead p (i + k) n
+  past zero i n l h = ap (λ (j : ℕ). ahead p j n) (omega arith)
+  past (suc k) i n l h =
+      let same : i + 1 + k ≡ i + suc k = omega arith in
+      ahead-skip p i n (omega arith) (h i (le-refl i) (omega arith))
+      ∙ past k (i + 1) n (omega arith) (λ m low high. h m (omega arith) (omega arith))
+      ∙ ap (λ (j : ℕ). ahead p j n) same
+
+  pub ahead-past : (i j n : ℕ) → i ≤ j → j ≤ n → ((m : ℕ) → i ≤ m → m < j → p m ≡ false) → ahead p i n ≡ ahead p j n
+  ahead-past i j n l h none =
+      let same : i + (j - i) ≡ j = omega arith in
+      past (j - i) i n (omega arith) (λ m low high. none m low (omega arith)) ∙ ap (λ (m : ℕ). ahead p m n) same
+
+  pub none-kept : (n : ℕ) → ((m : ℕ) → m < n → p m ≡ false) → keep p (upto n) ≡ []
+  none-kept n none =
+      ahead-start p n
+      ∙ ahead-past 0 n n (omega arith) (le-refl n) (λ m low high. none m high)
+      ∙ ahead-end p n n (le-refl n)
+
+  -- s is the lowest of i .. n − 1 that passes
+  pub record Found (i n s : ℕ) : Type 0 where
+    pub low : i ≤ s
+    pub high : s < n
+    pub passes : p s ≡ true
+    pub before : (m : ℕ) → i ≤ m → m < s → p m ≡ false
+    pub list : ahead p i n ≡ s ∷ ahead p (s + 1) n
+
+  -- none of i .. n − 1 passes
+  abbrev pub Missed : ℕ → ℕ → Type 0
+  Missed i n = (m : ℕ) → i ≤ m → m < n → p m ≡ false
+
+  found-here : (i n : ℕ) → i < n → p i ≡ true → Found i n i
+  found-here i n l e =
+      record {
+        low = le-refl i;
+        high = l;
+        passes = e;
+        before = λ m low high. absurd (lt-irrefl m (omega arith));
+        list = ahead-take p i n l e;
+      }
+
+  found-later : (i n s : ℕ) → i < n → p i ≡ false → Found (i + 1) n s → Found i n s
+  found-later i n s l e r =
+      record {
+        low = omega arith;
+        high = r .high;
+        passes = r .passes;
+        before = λ m low high. below-or-not i m (λ h. r .before m (omega arith) high) (λ h. let same : m ≡ i = omega arith in rw same e);
+        list = ahead-skip p i n l e ∙ r .list;
+      }
+
+  found-within : (k i n : ℕ) → n ≤ i + k → sought p i n < n → Found i n (sought p i n)
+  found-within zero i n l h = absurd (lt-irrefl n (omega (arith, sought-end p i n (omega arith))))
+  found-within (suc k) i n l h =
+      below-or-not i n
+      (λ g.
+      cases (p i)
+      (λ e. rw (sought-hit p i n g e) (found-here i n g e))
+      (λ e.
+      let next = sought-miss p i n g e in
+      rw next (found-later i n (sought p (i + 1) n) g e (found-within k (i + 1) n (omega arith) (rw next at h)))))
+      (λ g. absurd (lt-irrefl n (omega (arith, sought-end p i n g))))
+
+  pub found : (i n : ℕ) → sought p i n < n → Found i n (sought p i n)
+  found i n h = found-within n i n (omega arith) h
+
+  missed-within : (k i n : ℕ) → n ≤ i + k → n ≤ sought p i n → Missed i n
+  missed-within zero i n l h m low high = absurd (lt-irrefl n (omega arith))
+  missed-within (suc k) i n l h m low high =
+      let g : i < n = omega arith in
+      cases (p i)
+      (λ e. absurd (lt-irrefl i (omega (arith, sought-hit p i n g e))))
+      (λ e.
+      below-or-not i m
+      (λ j. missed-within k (i + 1) n (omega arith) (rw (sought-miss p i n g e) at h) m (omega arith) high)
+      (λ j. let same : m ≡ i = omega arith in rw same e))
+
+  pub missed : (i n : ℕ) → n ≤ sought p i n → Missed i n
+  missed i n h = missed-within n i n (omega arith) h
+
+  pub missed-list : (i n : ℕ) → i ≤ n → n ≤ sought p i n → ahead p i n ≡ []
+  missed-list i n l h = ahead-past i n n l (le-refl n) (missed i n h) ∙ ahead-end p n n (le-refl n)
+
+  -- no search goes beyond the range
+  pub sought-le : (i n : ℕ) → i ≤ n → sought p i n ≤ n
+  unfolding sought
+  sought-le i n l =
+      below-or-not (sought p i n) n (λ h. omega arith) (λ h. rw (missed-list i n l h) (le-refl n))

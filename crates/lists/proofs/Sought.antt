@@ -1,0 +1,51 @@
+-- A loop that looks for the lowest number that passes a test, and one that asks whether any does: what it has found is settled by the
+-- numbers from the one it has come to.
+use Prim.Native.Nat.{ℕ, suc, _+_, _-_, _<_, _≤_}
+use native.Mathlib.Nat.{sub-zero}
+use native.Mathlib.Numerals.{add-one}
+use native.Mathlib.Omega.{arith}
+use mathlib.Core.Bool.{Bool, true, false}
+use mathlib.Core.Path.{_≡_, _∙_}
+use Rattle.lists.specs.Range.{from, upto, any, headOr, lowest}
+use Rattle.lists.proofs.Kept.{ahead, ahead-start, ahead-take, ahead-skip, ahead-end}
+
+module _ (p : ℕ → Bool) where
+  -- the lowest of i .. n − 1 that passes, or n
+  unfoldable pub sought : ℕ → ℕ → ℕ
+  sought i n = headOr n (ahead p i n)
+
+  pub sought-start : (n : ℕ) → lowest p n ≡ sought 0 n
+  unfolding lowest sought
+  sought-start n = rw (ahead-start p n)
+
+  pub sought-hit : (i n : ℕ) → i < n → p i ≡ true → sought i n ≡ i
+  unfolding sought
+  sought-hit i n l h = rw (ahead-take p i n l h)
+
+  pub sought-miss : (i n : ℕ) → i < n → p i ≡ false → sought i n ≡ sought (i + 1) n
+  unfolding sought
+  sought-miss i n l h = rw (ahead-skip p i n l h)
+
+  pub sought-end : (i n : ℕ) → n ≤ i → sought i n ≡ n
+  unfolding sought
+  sought-end i n h = rw (ahead-end p i n h)
+
+  -- whether one of i .. n − 1 passes
+  unfoldable pub anyAhead : ℕ → ℕ → Bool
+  anyAhead i n = any p (from i (n - i))
+
+  pub any-start : (n : ℕ) → any p (upto n) ≡ anyAhead 0 n
+  unfolding anyAhead
+  any-start n = rw (sub-zero n)
+
+  pub any-hit : (i n : ℕ) → i < n → p i ≡ true → anyAhead i n ≡ true
+  unfolding anyAhead from
+  any-hit i n l h = let s : n - i ≡ suc (n - (i + 1)) = omega arith in rw (s, h)
+
+  pub any-miss : (i n : ℕ) → i < n → p i ≡ false → anyAhead i n ≡ anyAhead (i + 1) n
+  unfolding anyAhead from
+  any-miss i n l h = let s : n - i ≡ suc (n - (i + 1)) = omega arith in rw (s, h, add-one i)
+
+  pub any-end : (i n : ℕ) → n ≤ i → anyAhead i n ≡ false
+  unfolding anyAhead from
+  any-end i n h = let s : n - i ≡ 0 = omega arith in rw s

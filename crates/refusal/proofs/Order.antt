@@ -1,0 +1,62 @@
+-- The order of tests: what the tests before decide is decided, and of one test for each domain or row the lowest at fault refuses.
+use Prim.Native.Nat.{ℕ, zero, suc, _+_, _<_}
+use native.Mathlib.Nat.{le-refl, zero-add}
+use native.Mathlib.Omega.{arith}
+use mathlib.Core.Bool.{Bool, true, false}
+use mathlib.Core.List.{List, [], _∷_, _++_, map}
+use mathlib.Core.Path.{_≡_, refl}
+use lib.Dec.{ltb}
+use borrow.Author.Tests.{lt-ltb, le-ltb}
+use Rattle.lists.specs.Choice.{if_then_else_}
+use Rattle.lists.specs.Range.{from, keep, headOr, lowest}
+use Rattle.lists.proofs.Split.{cases}
+use Rattle.refusal.specs.Reply.{Answers, Refuses, Test, each, unless, passes}
+use Rattle.refusal.proofs.Replies.{passed-first}
+
+module _ {A B : Type 0} (a : A) (b : B) where
+  -- a refusal among the first tests is the reply
+  pub unless-refused : (xs ys : List Test) (n r : ℕ) → unless xs a ≡ Refuses n r → unless (xs ++ ys) b ≡ Refuses n r
+  unfolding unless
+  unless-refused [] ys n r e = cc
+  unless-refused (t ∷ ts) ys n r e =
+      cases (t .fails) (λ f. rw f (cc (rw f at e))) (λ f. rw f (unless-refused ts ys n r (rw f at e)))
+
+  -- where none of the first tests fails, the others decide
+  pub unless-passed : (xs ys : List Test) → unless xs a ≡ Answers a → unless (xs ++ ys) b ≡ unless ys b
+  unfolding unless
+  unless-passed [] ys e = refl
+  unless-passed (t ∷ ts) ys e =
+      cases (t .fails) (λ f. cc (rw f at e)) (λ f. rw f (unless-passed ts ys (rw f at e)))
+
+module _ {A : Type 0} (n number : ℕ) (f : ℕ → Bool) (rest : List Test) (a : A) where
+  -- the lowest of the k rows before n
+  rows :
+      (k i : ℕ)
+      → i + k ≡ n
+      → unless (map (λ (r : ℕ). record { number = number; row = r; fails = f r }) (from i k) ++ rest) a
+      ≡ (if ltb (headOr n (keep f (from i k))) n then Refuses number (headOr n (keep f (from i k))) else unless rest a)
+  unfolding unless keep from
+  rows zero i e = rw (le-ltb n n (le-refl n))
+  rows (suc k) i e =
+      let l : i < n = omega arith in
+      let next : suc i + k ≡ n = omega arith in
+      cases (f i) (λ h. rw (h, lt-ltb i n l)) (λ h. rw h (rows k (suc i) next))
+
+  pub unless-each :
+      unless (each n number f ++ rest) a ≡ (if ltb (lowest f n) n then Refuses number (lowest f n) else unless rest a)
+  unfolding each lowest
+  unless-each = rows n 0 (zero-add n)
+
+-- where no test of two lists fails, none of the second does
+pub passed-later : (xs ys : List Test) → passes (xs ++ ys) ≡ true → passes ys ≡ true
+unfolding passes
+passed-later [] ys e = e
+passed-later (t ∷ ts) ys e = passed-later ts ys (passed-first t (ts ++ ys) e .1)
+
+-- and none of the first
+pub passed-earlier : (xs ys : List Test) → passes (xs ++ ys) ≡ true → passes xs ≡ true
+unfolding passes
+passed-earlier [] ys e = refl
+passed-earlier (t ∷ ts) ys e =
+    let first = passed-first t (ts ++ ys) e in
+    rw (first .0) (passed-earlier ts ys (first .1))
