@@ -72,8 +72,8 @@ pub less-is-no-later :
 unfolding timeInPart taskNeed charge
 less-is-no-later p q reload reload′ part part′ i due less own f =
     let needs : (t : ℕ) → taskNeed reload′ part′ i t ≤ taskNeed reload part i t = λ t.
-        need-less (cost part i) (cost part′ i) (taskPeriod part) (taskPeriod part′) (charge reload part i) (charge reload′ part′ i) i t own
-        (λ j l. let r = f j l in (r .0, add-le-add (r .1) (mul-le-mul less (r .2)))) in
+    need-less (cost part i) (cost part′ i) (taskPeriod part) (taskPeriod part′) (charge reload part i) (charge reload′ part′ i) i t own
+    (λ j l. let r = f j l in (r .0, add-le-add (r .1) (mul-le-mul less (r .2)))) in
     rw (← due)
     (no-later (λ (t : ℕ). leb (taskNeed reload part i t) (supply p q t)) (λ (t : ℕ). leb (taskNeed reload′ part′ i t) (supply p q t)) (deadline part i)
     (λ t h e. le-leb _ _ (le-trans (needs t) (leb-true _ _ e))))
@@ -109,11 +109,11 @@ module _ (part more : List ℕ) (i : ℕ) (whole : 20 * i + 20 ≤ length part) 
   unfolding timeInPart taskNeed charge cost colours-shared
   later-tasks-change-nothing p q reload few =
       let costs : (j : ℕ) → j ≤ i → cost (part ++ more) j ≡ cost part j = λ j h.
-          rw (set-stays j h) (word-stays j (3 + ones (colourSet part j)) h (omega (arith, few j h))) in
+      rw (set-stays j h) (word-stays j (3 + ones (colourSet part j)) h (omega (arith, few j h))) in
       let needs : (t : ℕ) → taskNeed reload (part ++ more) i t ≡ taskNeed reload part i t = λ t.
-          rw (costs i (le-refl i))
-          (need-same (cost part i) (taskPeriod part) (taskPeriod (part ++ more)) (charge reload part i) (charge reload (part ++ more) i) i t
-          (λ j l. (word-stays j 1 (omega arith) (omega arith), rw (costs j (omega arith), set-stays j (omega arith), set-stays i (le-refl i))))) in
+      rw (costs i (le-refl i))
+      (need-same (cost part i) (taskPeriod part) (taskPeriod (part ++ more)) (charge reload part i) (charge reload (part ++ more) i) i t
+      (λ j l. (word-stays j 1 (omega arith) (omega arith), rw (costs j (omega arith), set-stays j (omega arith), set-stays i (le-refl i))))) in
       first-same (λ (t : ℕ). leb (taskNeed reload (part ++ more) i t) (supply p q t)) (λ (t : ℕ). leb (taskNeed reload part i t) (supply p q t)) (deadline (part ++ more) i)
       (λ t. ap (λ (x : ℕ). leb x (supply p q t)) (needs t))
       ∙ ap (firstTime (λ (t : ℕ). leb (taskNeed reload part i t) (supply p q t))) (word-stays i 2 (le-refl i) (omega arith))
