@@ -49,6 +49,26 @@ pub fn accepted(random: &mut Random, n: u32, frames: u32, domains: u32) -> Board
     }
 }
 
+/// Makes the board fail at a number and row of 5 to 7, without a failure that is tested before.
+pub fn spoil(random: &mut Random, board: &mut Board, number: u32, row: u32) {
+    let n = board.colours;
+    let here = row as usize;
+    match number {
+        5 => {
+            let beyond = 1 << (u64::from(n) + random.below(32 - u64::from(n)));
+            board.grants[here] = random.pick(&[0, beyond, board.grants[here] | beyond]);
+        }
+        6 => {
+            let later = row + 1 + random.below((board.domains - 1 - row).into()) as u32;
+            board.grants[later as usize] |= part_of(random, board.grants[here]);
+        }
+        _ => {
+            let outside = 1 << random.pick(&colours(!board.grants[here]));
+            board.active[here] = random.pick(&[0, outside, board.active[here] | outside]);
+        }
+    }
+}
+
 /// An empty table: free frames, and here and there a reserved one.
 pub fn empty_table(random: &mut Random, frames: u32) -> Vec<u16> {
     let percent = random.pick(&[0, 10, 30]);

@@ -66,17 +66,19 @@ fn has(set: u32, colour: u32) -> bool {
 }
 
 /// Whether the set is 0 or has a bit outside the limit.
-fn unfit(set: u32, limit: u32) -> bool {
+pub fn unfit(set: u32, limit: u32) -> bool {
     set == 0 || (0..32).any(|c| has(set, c) && !has(limit, c))
 }
 
-/// Refusals 2 to 7, which accept a board with its table: one number is tested over all domains before
-/// the next, and the row is the lowest domain at fault. Of two grants that meet, 6 names the lower.
-pub fn refused_board(board: &Board, table: &[u16]) -> Option<(u32, u32)> {
+/// Refusals 2 to 7, which accept a board with its table, if one is lent: one number is tested over all
+/// domains before the next, and the row is the lowest domain at fault. Of two grants that meet, 6 names
+/// the lower.
+pub fn refused_board(board: &Board, table: Option<&[u16]>) -> Option<(u32, u32)> {
     if !is_count(board.colours.into()) {
         return Some((2, 0));
     }
-    if board.frames == 0 || board.frames > FRAMES || table.len() != board.frames as usize {
+    let misfit = |table: &[u16]| table.len() != board.frames as usize;
+    if board.frames == 0 || board.frames > FRAMES || table.is_some_and(misfit) {
         return Some((3, 0));
     }
     if board.domains == 0 || board.domains as usize > DOMAINS {
@@ -99,7 +101,7 @@ pub fn refused_board(board: &Board, table: &[u16]) -> Option<(u32, u32)> {
 
 /// Refusals 2 to 8.
 fn refused_caller(board: &Board, table: &[u16], domain: u32) -> Option<Reply<Answer>> {
-    if let Some((number, row)) = refused_board(board, table) {
+    if let Some((number, row)) = refused_board(board, Some(table)) {
         return Some(Reply::Refused { number, row });
     }
     (domain >= board.domains).then_some(Reply::refused(8))
@@ -373,21 +375,21 @@ mod tests {
         board.domains = 4;
         board.grants[..4].copy_from_slice(&[0x1, 0x2, 0x12, 0x2]);
         board.active[..4].copy_from_slice(&[0, 0x2, 0x2, 0x2]);
-        assert_eq!(refused_board(&board, &table), Some((5, 2)));
+        assert_eq!(refused_board(&board, Some(&table)), Some((5, 2)));
         board.grants[2] = 0x4;
-        assert_eq!(refused_board(&board, &table), Some((6, 1)));
+        assert_eq!(refused_board(&board, Some(&table)), Some((6, 1)));
         board.grants[3] = 0x8;
-        assert_eq!(refused_board(&board, &table), Some((7, 0)));
+        assert_eq!(refused_board(&board, Some(&table)), Some((7, 0)));
         board.active[..4].copy_from_slice(&[0x1, 0x2, 0x4, 0x2]);
-        assert_eq!(refused_board(&board, &table), Some((7, 3)));
+        assert_eq!(refused_board(&board, Some(&table)), Some((7, 3)));
         board.domains = 3;
-        assert_eq!(refused_board(&board, &table), None);
+        assert_eq!(refused_board(&board, Some(&table)), None);
         assert_eq!(colours(&board, &table, 3), Reply::refused(8));
         board.domains = 9;
-        assert_eq!(refused_board(&board, &table), Some((4, 0)));
+        assert_eq!(refused_board(&board, Some(&table)), Some((4, 0)));
         table.push(FREE);
-        assert_eq!(refused_board(&board, &table), Some((3, 0)));
+        assert_eq!(refused_board(&board, Some(&table)), Some((3, 0)));
         board.colours = 3;
-        assert_eq!(refused_board(&board, &table), Some((2, 0)));
+        assert_eq!(refused_board(&board, Some(&table)), Some((2, 0)));
     }
 }

@@ -6,7 +6,9 @@ mod boards;
 mod cache;
 mod frames;
 mod history;
+mod plans;
 mod random;
+mod random_plans;
 mod reply;
 mod vectors;
 

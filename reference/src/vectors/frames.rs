@@ -2,8 +2,8 @@
 //! words, their count first. A script is the board (19 words), the table's length and words, the number of
 //! calls, and four words for each: operation, domain, page or set, length of the move list.
 
-use super::Set;
-use crate::boards::{accepted, any_domain, any_page, any_set, empty_table, part_of};
+use super::{board_words, hash, put, Set};
+use crate::boards::{accepted, any_domain, any_page, any_set, empty_table, part_of, spoil};
 use crate::cache::colours;
 use crate::frames::{word, Answer, Board, Call, State, DOMAINS, FREE, PAGES, RESERVED};
 use crate::random::Random;
@@ -88,27 +88,8 @@ fn lent_list(length: usize) -> Vec<u16> {
     (0..length).map(|i| ((i * 7 + 3) % 65_536) as u16).collect()
 }
 
-fn hash(words: impl IntoIterator<Item = u32>) -> u32 {
-    let step = |h: u32, word| h.wrapping_mul(16_777_619).wrapping_add(word);
-    words.into_iter().fold(0, step)
-}
-
 fn hash_short(words: &[u16]) -> u32 {
     hash(words.iter().map(|word| u32::from(*word)))
-}
-
-fn board_words(board: &Board) -> Vec<u32> {
-    let mut words = vec![board.colours, board.frames, board.domains];
-    words.extend(board.grants);
-    words.extend(board.active);
-    words
-}
-
-fn put(set: &mut Set, word: impl TryInto<u32>) {
-    let Ok(word) = word.try_into() else {
-        panic!("a word of the vectors has 32 bits");
-    };
-    set.stdin.extend(word.to_le_bytes());
 }
 
 /// Writes a script and what its calls answer, each on the board and table that the one before left: the
@@ -224,26 +205,6 @@ fn call_all(random: &mut Random, script: &mut Script, expected: Reply<Answer>) {
         assert_eq!(reply, expected);
     }
     assert_eq!(script.now, script.start);
-}
-
-/// Makes the board fail at a number and row of 5 to 7, without a failure that is tested before.
-fn spoil(random: &mut Random, board: &mut Board, number: u32, row: u32) {
-    let n = board.colours;
-    let here = row as usize;
-    match number {
-        5 => {
-            let beyond = 1 << (u64::from(n) + random.below(32 - u64::from(n)));
-            board.grants[here] = random.pick(&[0, beyond, board.grants[here] | beyond]);
-        }
-        6 => {
-            let later = row + 1 + random.below((board.domains - 1 - row).into()) as u32;
-            board.grants[later as usize] |= part_of(random, board.grants[here]);
-        }
-        _ => {
-            let outside = 1 << random.pick(&colours(!board.grants[here]));
-            board.active[here] = random.pick(&[0, outside, board.active[here] | outside]);
-        }
-    }
 }
 
 /// Refusals 2 to 4, each alone and with failures that are tested after it.
@@ -537,17 +498,6 @@ fn long_tables(random: &mut Random) -> Vec<Script> {
 #[cfg(test)]
 mod tests {
     use super::*;
-
-    #[test]
-    fn hash_of_words() {
-        assert_eq!(hash([]), 0);
-        assert_eq!(hash([5]), 5);
-        assert_eq!(hash([1, 2]), 16_777_621);
-        assert_eq!(
-            u64::from(hash([1, 2, 3])),
-            (16_777_621 * 16_777_619 + 3) % (1 << 32)
-        );
-    }
 
     /// Whatever a call can answer occurs, a thousand moves too, and the input stays small.
     #[test]

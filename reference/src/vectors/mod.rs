@@ -3,12 +3,14 @@
 
 mod colours;
 mod frames;
+mod plans;
 
 use std::collections::BTreeMap;
 use std::fs;
 use std::ops::Range;
 use std::path::{Path, PathBuf};
 
+use crate::frames::Board;
 use crate::reply::Reply;
 
 pub struct Set {
@@ -23,7 +25,26 @@ pub struct Set {
 }
 
 pub fn all(seed: u64) -> Vec<Set> {
-    vec![colours::set(seed), frames::set(seed)]
+    vec![colours::set(seed), frames::set(seed), plans::set(seed)]
+}
+
+fn hash(words: impl IntoIterator<Item = u32>) -> u32 {
+    let step = |h: u32, word| h.wrapping_mul(16_777_619).wrapping_add(word);
+    words.into_iter().fold(0, step)
+}
+
+fn board_words(board: &Board) -> Vec<u32> {
+    let mut words = vec![board.colours, board.frames, board.domains];
+    words.extend(board.grants);
+    words.extend(board.active);
+    words
+}
+
+fn put(set: &mut Set, word: impl TryInto<u32>) {
+    let Ok(word) = word.try_into() else {
+        panic!("a word of the vectors has 32 bits");
+    };
+    set.stdin.extend(word.to_le_bytes());
 }
 
 impl Set {
@@ -127,5 +148,21 @@ impl Set {
             }
         }
         good
+    }
+}
+
+#[cfg(test)]
+mod tests {
+    use super::*;
+
+    #[test]
+    fn hash_of_words() {
+        assert_eq!(hash([]), 0);
+        assert_eq!(hash([5]), 5);
+        assert_eq!(hash([1, 2]), 16_777_621);
+        assert_eq!(
+            u64::from(hash([1, 2, 3])),
+            (16_777_621 * 16_777_619 + 3) % (1 << 32)
+        );
     }
 }
