@@ -1,0 +1,103 @@
+-- `admission::search::time_in_part` meets its contract. The invariant: no microsecond before t will do. Each round goes on to the first
+-- whose supply covers the need in t, and what the search stops at is the first that will (`Search`).
+use Prim.Native.Nat.{ℕ, _+_, _-_, _<_, _≤_}
+use native.Mathlib.Nat.{le-refl, le-trans}
+use native.Mathlib.Omega.{arith}
+use mathlib.Core.Bool.{false}
+use mathlib.Core.Path.{_≡_, sym, _∙_}
+use lib.Dec.{leb}
+use Rattle.supply.specs.Supply.{supply, firstSupply}
+use Rattle.plan.specs.Rows.{deadline}
+use Rattle.times.specs.Times.{taskNeed, timeInPart}
+use Rattle.times.proofs.Search.{Searchable, before-one, next, found, missed, exceeded}
+use Rattle.times.proofs.Rows.{task-search}
+use Rattle.admission.proofs.search.time_in_part.Statement.{statement}
+use Rattle.admission.proofs.search.time_in_part.Tie as tie
+
+abbrev Inv-loop : tie.InvT-loop
+Inv-loop period budget reload part i due t₀ t =
+    (1 ≤ t) × (due ≡ deadline part i) × ((s : ℕ) → 1 ≤ s → s < t → leb (taskNeed reload part i s) (supply period budget s) ≡ false)
+
+abbrev μ-loop : tie.MeasureT-loop
+μ-loop period budget reload part i due t₀ t = due + 1 - t
+
+-- the rows and the resource are fit for the search
+search-of : (c : tie.Start Inv-loop μ-loop) → Searchable (supply (c .args .period) (c .args .budget)) (taskNeed (c .args .reload) (c .args .part .now) (c .args .i)) (firstSupply (c .args .period) (c .args .budget))
+search-of c = task-search (c .args .period) (c .args .budget) (c .args .reload) (c .args .part .now) (c .args .i) (c .pre .0) (c .pre .3)
+
+due-le : (c : tie.Start Inv-loop μ-loop) → deadline (c .args .part .now) (c .args .i) ≤ 1000000
+due-le c = let r = c .pre .3 .row (c .args .i) (le-refl (c .args .i)) in le-trans (r .due-high) (r .period-high)
+
+task-word-requires : tie.Need-task-word-requires Inv-loop μ-loop
+task-word-requires c κs = tt
+
+cast-due : tie.Need-cast-due Inv-loop μ-loop
+cast-due c = omega (arith, c .task-word .ok)
+
+loop-holds : tie.Need-loop-holds Inv-loop μ-loop
+loop-holds c = (omega arith, c .task-word .ensures, before-one (search-of (c .before .before)))
+
+task-need-requires : tie.Need-task-need-requires Inv-loop μ-loop
+task-need-requires c κs =
+    let s = c .before .before .before .before in
+    (s .pre .2, omega (arith, due-le s, c .before .loop .inv .1), s .pre .3)
+
+returns : tie.Need-returns Inv-loop μ-loop
+unfolding timeInPart
+returns c =
+    let s = c .before .before .before .before .before .before in
+    let h = c .before .before .before .loop in
+    sym (exceeded (search-of s) (deadline (s .args .part .now) (s .args .i)) (h .t) (h .inv .0) (h .inv .2) (rw (h .inv .1, c .before .task-need .ensures) at (c .if1 .taken)))
+
+first-supply-requires : tie.Need-first-supply-requires Inv-loop μ-loop
+first-supply-requires c κs =
+    let s = c .before .before .before .before .before .before in
+    let h = c .before .before .before .loop in
+    (s .pre .0, s .pre .1, rw (c .before .task-need .ensures) (search-of s .some (h .t)), omega (arith, due-le s, h .inv .1))
+
+cast-t12 : tie.Need-cast-t12 Inv-loop μ-loop
+cast-t12 c =
+    let h = c .before .before .before .before .before .loop in
+    omega (arith, due-le (c .before .before .before .before .before .before .before .before), h .inv .1)
+
+returns-2 : tie.Need-returns-2 Inv-loop μ-loop
+unfolding timeInPart
+returns-2 c =
+    let s = c .before .before .before .before .before .before .before .before in
+    let h = c .before .before .before .before .before .loop in
+    let stays = rw (c .before .first-supply .ensures, c .before .before .before .task-need .ensures) at (c .if2 .taken) in
+    sym (found (search-of s) (deadline (s .args .part .now) (s .args .i)) (h .t) (h .inv .0) (rw (h .inv .1) at (c .before .before .before .before .loop-test .taken)) (h .inv .2) stays)
+
+loop-less : tie.Need-loop-less Inv-loop μ-loop
+loop-less c = omega arith
+
+loop-again : tie.Need-loop-again Inv-loop μ-loop
+loop-again c =
+    let s = c .before .before .before .before .before .before .before .before in
+    let h = c .before .before .before .before .before .loop in
+    (omega arith, h .inv .1, rw (c .before .first-supply .ensures, c .before .before .before .task-need .ensures) (next (search-of s) (h .t) (h .inv .2)))
+
+returns-3 : tie.Need-returns-3 Inv-loop μ-loop
+unfolding timeInPart
+returns-3 c =
+    let s = c .before .before .before .before in
+    let h = c .before .loop in
+    sym (missed (search-of s) (deadline (s .args .part .now) (s .args .i)) (h .t) (omega (arith, h .inv .1)) (h .inv .2))
+
+pub time-in-part-spec : {M : Type 1} → statement M
+time-in-part-spec =
+    tie.close
+    (tie.spec
+    Inv-loop
+    μ-loop
+    task-word-requires
+    cast-due
+    loop-holds
+    task-need-requires
+    returns
+    first-supply-requires
+    cast-t12
+    returns-2
+    loop-less
+    loop-again
+    returns-3)

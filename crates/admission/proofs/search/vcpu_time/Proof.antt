@@ -1,0 +1,85 @@
+-- `admission::search::vcpu_time` meets its contract: the search of a task, with t for the supply in t.
+use Prim.Native.Nat.{ℕ, _+_, _-_, _<_, _≤_}
+use native.Mathlib.Nat.{le-refl}
+use native.Mathlib.Omega.{arith}
+use mathlib.Core.Bool.{false}
+use mathlib.Core.Path.{_≡_, sym, _∙_}
+use lib.Dec.{leb}
+use Rattle.plan.specs.Rows.{vcpuPeriod}
+use Rattle.times.specs.Times.{vcpuNeed, vcpuTime}
+use Rattle.times.proofs.Search.{Searchable, before-one, next, found, missed}
+use Rattle.times.proofs.Rows.{vcpu-search}
+use Rattle.admission.proofs.search.vcpu_time.Statement.{statement}
+use Rattle.admission.proofs.search.vcpu_time.Tie as tie
+
+abbrev Inv-loop : tie.InvT-loop
+Inv-loop vcpus i due t₀ t = (1 ≤ t) × (due ≡ vcpuPeriod vcpus i) × ((s : ℕ) → 1 ≤ s → s < t → leb (vcpuNeed vcpus i s) s ≡ false)
+
+abbrev μ-loop : tie.MeasureT-loop
+μ-loop vcpus i due t₀ t = due + 1 - t
+
+-- the rows are fit for the search
+search-of : (c : tie.Start Inv-loop μ-loop) → Searchable (λ (t : ℕ). t) (vcpuNeed (c .args .vcpus .now) (c .args .i)) (λ (x : ℕ). x)
+search-of c = vcpu-search (c .args .vcpus .now) (c .args .i) (c .pre)
+
+due-le : (c : tie.Start Inv-loop μ-loop) → vcpuPeriod (c .args .vcpus .now) (c .args .i) ≤ 1000000
+due-le c = c .pre .row (c .args .i) (le-refl (c .args .i)) .period-high
+
+vcpu-word-requires : tie.Need-vcpu-word-requires Inv-loop μ-loop
+vcpu-word-requires c κs = tt
+
+cast-due : tie.Need-cast-due Inv-loop μ-loop
+cast-due c = omega (arith, c .vcpu-word .ok)
+
+loop-holds : tie.Need-loop-holds Inv-loop μ-loop
+loop-holds c = (omega arith, c .vcpu-word .ensures, before-one (search-of (c .before .before)))
+
+vcpu-need-requires : tie.Need-vcpu-need-requires Inv-loop μ-loop
+vcpu-need-requires c κs =
+    let s = c .before .before .before .before in
+    (omega (arith, due-le s, c .before .loop .inv .1), s .pre)
+
+cast-t8 : tie.Need-cast-t8 Inv-loop μ-loop
+cast-t8 c =
+    let h = c .before .before .before .loop in
+    omega (arith, due-le (c .before .before .before .before .before .before), h .inv .1)
+
+returns : tie.Need-returns Inv-loop μ-loop
+unfolding vcpuTime
+returns c =
+    let s = c .before .before .before .before .before .before in
+    let h = c .before .before .before .loop in
+    let stays = rw (c .before .vcpu-need .ensures) at (c .if1 .taken) in
+    sym (found (search-of s) (vcpuPeriod (s .args .vcpus .now) (s .args .i)) (h .t) (h .inv .0) (rw (h .inv .1) at (c .before .before .loop-test .taken)) (h .inv .2) stays)
+
+loop-less : tie.Need-loop-less Inv-loop μ-loop
+loop-less c = omega arith
+
+loop-again : tie.Need-loop-again Inv-loop μ-loop
+loop-again c =
+    let s = c .before .before .before .before .before .before in
+    let h = c .before .before .before .loop in
+    (omega arith, h .inv .1, rw (c .before .vcpu-need .ensures) (next (search-of s) (h .t) (h .inv .2)))
+
+returns-2 : tie.Need-returns-2 Inv-loop μ-loop
+unfolding vcpuTime
+returns-2 c =
+    let s = c .before .before .before .before in
+    let h = c .before .loop in
+    sym (missed (search-of s) (vcpuPeriod (s .args .vcpus .now) (s .args .i)) (h .t) (omega (arith, h .inv .1)) (h .inv .2))
+
+pub vcpu-time-spec : {M : Type 1} → statement M
+vcpu-time-spec =
+    tie.close
+    (tie.spec
+    Inv-loop
+    μ-loop
+    vcpu-word-requires
+    cast-due
+    loop-holds
+    vcpu-need-requires
+    cast-t8
+    returns
+    loop-less
+    loop-again
+    returns-2)

@@ -1,0 +1,49 @@
+-- Admission of a plan: document 01, refusals 2 to 7 and 15 to 22 in order, and the times of VCPUs and then of tasks, in row order, written to
+-- the lent list. The rest of the list, and all of it on a refusal, does not change.
+use Prim.Native.Nat.{ℕ, _+_}
+use mathlib.Core.Bool.{Bool, true, false}
+use mathlib.Core.List.{List, _++_, map}
+use lib.ListN.{length, drop}
+use Rattle.lists.specs.Range.{upto}
+use Rattle.refusal.specs.Reply.{Reply, Answers, Refuses, Test, each, unless}
+use Rattle.board.specs.declared.Board.{Board}
+use Rattle.board.specs.Tests.{boardTests}
+use Rattle.plan.specs.Rows.{vcpuRows, taskRows}
+use Rattle.plan.specs.Tests.{planTests}
+use Rattle.times.specs.First.{Time, At, Late}
+use Rattle.times.specs.Times.{taskTime, vcpuTime}
+
+abbrev pub isLate : Time → Bool
+isLate (At t) = false
+isLate Late = true
+
+abbrev pub microseconds : Time → ℕ
+microseconds (At t) = t
+microseconds Late = 0
+
+-- 21: a VCPU has no time up to its period. 22: a task has no time up to its deadline
+unfoldable pub timeTests : ℕ → List ℕ → List ℕ → List Test
+timeTests reload vcpus tasks =
+    each (vcpuRows vcpus) 21 (λ (i : ℕ). isLate (vcpuTime vcpus i))
+    ++ each (taskRows tasks) 22 (λ (j : ℕ). isLate (taskTime reload vcpus tasks j))
+
+-- without a frame table, 3 is about F alone
+unfoldable pub admissionReply : Board → ℕ → List ℕ → List ℕ → ℕ → Reply (Unit {0})
+admissionReply b reload vcpus tasks room =
+    unless (boardTests b (b .frames) ++ (planTests b reload vcpus tasks room ++ timeTests reload vcpus tasks)) tt
+
+-- the times of all rows
+unfoldable pub vcpuTimes : List ℕ → List ℕ
+vcpuTimes vcpus = map (λ (i : ℕ). microseconds (vcpuTime vcpus i)) (upto (vcpuRows vcpus))
+
+unfoldable pub taskTimes : ℕ → List ℕ → List ℕ → List ℕ
+taskTimes reload vcpus tasks = map (λ (j : ℕ). microseconds (taskTime reload vcpus tasks j)) (upto (taskRows tasks))
+
+-- the lent list after a reply
+abbrev pub listAfter : Reply (Unit {0}) → List ℕ → List ℕ → List ℕ
+listAfter (Answers a) times lent = times ++ drop (length times) lent
+listAfter (Refuses n r) times lent = lent
+
+unfoldable pub timesAfter : Board → ℕ → List ℕ → List ℕ → List ℕ → List ℕ
+timesAfter b reload vcpus tasks lent =
+    listAfter (admissionReply b reload vcpus tasks (length lent)) (vcpuTimes vcpus ++ taskTimes reload vcpus tasks) lent

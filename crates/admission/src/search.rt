@@ -1,0 +1,66 @@
+// The search for a time by rounds: from t, 1 at first, to the first microsecond whose supply covers the
+// need in t, until that is t itself, or none up to the bound is left.
+ghost use mathlib.Core.Path.{_≡_};
+ghost use Prim.Native.Nat.{_≤_, _<_};
+ghost use Rattle.supply.specs.Supply.{firstSupply, Budget};
+ghost use Rattle.times.specs.Times.{timeInPart, vcpuTime as vcpuTimeOf};
+ghost use Rattle.times.specs.Valid.{TaskRows, VcpuRows};
+ghost use Rattle.admission.specs.Paper.{paperFound};
+use crate::need::task_need;
+use crate::need::vcpu_need;
+use plan::task_word;
+use plan::vcpu_word;
+
+pub enum Found {
+    At(u32),
+    Late,
+}
+
+// The first microsecond in which a resource has supplied x.
+fn first_supply(period: u32, budget: u32, x: u64) -> u64
+    requires { ⌜ Budget period budget × (period ≤ 1000000) × (1 ≤ x) × (x ≤ 1000000) ⌝ }
+    ensures { λ r. ⌜ r ≡ firstSupply period budget x ⌝ }
+{
+    let p = period as u64;
+    let q = budget as u64;
+    2 * (p - q) + (x - 1) / q * p + (x - 1) % q + 1
+}
+
+// The time of row i of a part under its VCPU's period and budget. A need above the deadline is late
+// before it is inverted, since no supply exceeds its time.
+pub(crate) fn time_in_part(period: u32, budget: u32, reload: u32, part: &[u32], i: u32) -> Found
+    requires { ⌜ Budget period budget × (period ≤ 1000000) × (reload ≤ 10000) × TaskRows (now part) i ⌝ }
+    ensures { λ r. ⌜ paperFound r ≡ timeInPart period budget reload (now (part .entry)) i ⌝ }
+{
+    let due = task_word(part, i, 2) as u64;
+    let mut t: u64 = 1;
+    while t <= due {
+        let need = task_need(reload, part, i, t);
+        if due < need {
+            return Found::Late;
+        }
+        let next = first_supply(period, budget, need);
+        if next <= t {
+            return Found::At(t as u32);
+        }
+        t = next;
+    }
+    Found::Late
+}
+
+// The time of a VCPU: its supply in t is t.
+pub(crate) fn vcpu_time(vcpus: &[u32], i: u32) -> Found
+    requires { ⌜ VcpuRows (now vcpus) i ⌝ }
+    ensures { λ r. ⌜ paperFound r ≡ vcpuTimeOf (now (vcpus .entry)) i ⌝ }
+{
+    let due = vcpu_word(vcpus, i, 2) as u64;
+    let mut t: u64 = 1;
+    while t <= due {
+        let need = vcpu_need(vcpus, i, t);
+        if need <= t {
+            return Found::At(t as u32);
+        }
+        t = need;
+    }
+    Found::Late
+}
