@@ -6,3 +6,4 @@ pub mod Found
 pub mod Same
 pub mod Members
 pub mod Filter
+pub mod Written

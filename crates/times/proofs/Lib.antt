@@ -3,3 +3,4 @@ pub mod Search
 pub mod Needs
 pub mod Rows
 pub mod Planner
+pub mod PartRows

@@ -1,10 +1,10 @@
 -- What refusals 15 to 18 leave of a plan's rows: the ranges under which need and times mean what document 01 says. The code that works
 -- out a time relies on them.
-use Prim.Native.Nat.{ℕ, _+_, _*_, _<_, _≤_}
+use Prim.Native.Nat.{ℕ, suc, _+_, _*_, _<_, _≤_}
 use mathlib.Core.List.{List}
 use lib.Count.{ones}
 use lib.ListN.{length}
-use Rattle.plan.specs.Rows.{vcpuPeriod, budget, taskPeriod, deadline, colourSet, cost}
+use Rattle.plan.specs.Rows.{vcpuPeriod, budget, vcpuOf, taskPeriod, deadline, colourSet, cost, vcpuRows, taskRows}
 
 pub record TaskRow (part : List ℕ) (j : ℕ) : Type 0 where
   pub whole : 20 * j + 20 ≤ length part
@@ -31,3 +31,13 @@ pub record VcpuRow (vcpus : List ℕ) (j : ℕ) : Type 0 where
 pub record VcpuRows (vcpus : List ℕ) (i : ℕ) : Type 0 where
   pub few : i < 16
   pub row : (j : ℕ) → j ≤ i → VcpuRow vcpus j
+
+-- what refusals 15 to 19 leave of a plan
+pub record Plan (reload : ℕ) (vcpus tasks : List ℕ) : Type 0 where
+  pub reload-high : reload ≤ 10000
+  pub vcpus-few : vcpuRows vcpus ≤ 16
+  pub vcpu : (i : ℕ) → i < vcpuRows vcpus → VcpuRow vcpus i
+  pub tasks-few : taskRows tasks ≤ 32
+  pub task : (j : ℕ) → j < taskRows tasks → TaskRow tasks j
+  pub names : (j : ℕ) → j < taskRows tasks → vcpuOf tasks j < vcpuRows vcpus
+  pub ascending : (j : ℕ) → suc j < taskRows tasks → vcpuOf tasks j ≤ vcpuOf tasks (suc j)

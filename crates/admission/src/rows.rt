@@ -1,0 +1,48 @@
+// The times of all rows, VCPUs first, up to the first row that is late: document 01, refusals 21 and 22.
+// They are kept apart from the lent list until no row is late.
+ghost use mathlib.Core.Path.{_≡_};
+ghost use mathlib.Core.List.{map, _++_};
+ghost use Prim.Native.Nat.{_+_, _≤_, _<_};
+ghost use lib.ListN.{length, take, drop};
+ghost use Rattle.lists.specs.Range.{lowest, upto};
+ghost use Rattle.plan.specs.Rows.{vcpuRows, taskRows};
+ghost use Rattle.times.specs.Times.{vcpuTime, taskTime as taskTimeOf};
+ghost use Rattle.times.specs.Valid.{Plan};
+ghost use Rattle.admission.specs.Admission.{isLate, microseconds};
+use crate::search::Found;
+use crate::search::vcpu_time;
+
+// The first row that is late, or the number of rows; and the times found before it.
+pub(crate) struct Times {
+    pub late: u32,
+    pub found: [u32; 48],
+}
+
+pub(crate) fn vcpu_times(reload: u32, vcpus: &[u32], tasks: &[u32], rows: u32) -> Times
+    requires { ⌜ Plan reload (now vcpus) (now tasks) × (rows ≡ vcpuRows (now vcpus)) ⌝ }
+    ensures { λ r. ⌜ (r .late ≡ lowest (λ i. isLate (vcpuTime (now (vcpus .entry)) i)) rows) × (take (r .late) (r .found) ≡ map (λ i. microseconds (vcpuTime (now (vcpus .entry)) i)) (upto (r .late))) × (48 ≡ length (r .found)) ⌝ }
+{
+    let mut found = [0u32; 48];
+    let mut i: u32 = 0;
+    while i < rows {
+        let Found::At(time) = vcpu_time(vcpus, i) else {
+            return Times { late: i, found };
+        };
+        let k = i as usize;
+        found[k] = time;
+        i += 1;
+    }
+    Times { late: i, found }
+}
+
+// The first `count` words of the lent list are those found.
+pub(crate) fn write_times(times: &mut [u32], found: [u32; 48], count: usize)
+    requires { ⌜ (count ≤ 48) × (count ≤ length (now times)) × (48 ≡ length found) ⌝ }
+    ensures { λ r. ⌜ now (times .exit) ≡ take count found ++ drop count (now (times .entry)) ⌝ }
+{
+    let mut k = 0;
+    while k < count {
+        times[k] = found[k];
+        k += 1;
+    }
+}
