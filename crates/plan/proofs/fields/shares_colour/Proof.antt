@@ -49,7 +49,7 @@ returns : tie.Need-returns Inv-loop μ-loop
 returns c =
     let a = c .before .before .before .before .before .before .before .before .before .args in
     let h = c .before .before .before .before .before .loop in
-    let here : sharing (a .tasks .now) (a .row) (h .k) ≡ true = simp (← h .inv .1, ← h .inv .2, ← c .before .task-word4 .ensures, ← c .before .before .before .task-word3 .ensures, ne-eqb _ _ (c .before .before .if1 .taken), ne-eqb _ _ (c .if2 .taken)) in
+    let here : sharing (a .tasks .now) (a .row) (h .k) ≡ true = simp (← h .inv .1, ← h .inv .2, ← c .before .task-word4 .ensures, ← c .before .before .before .task-word3 .ensures, ne-eqb _ _ (c .before .before .if1 .taken), c .if2 .taken) in
     sym (h .inv .3 ∙ any-hit (sharing (a .tasks .now) (a .row)) (h .k) (taskRows (a .tasks .now)) (omega arith) here)
 
 add-k : tie.Need-add-k Inv-loop μ-loop
@@ -64,7 +64,7 @@ loop-again c =
     let h = c .before .before .before .loop in
     let here : sharing (a .tasks .now) (a .row) (h .k) ≡ false =
         ⊎-elim
-        (λ w. simp (← h .inv .1, ← h .inv .2, ← w .1 .ensures, ← c .before .task-word3 .ensures, ne-eqb _ _ (w .0 .taken), eq-eqb _ _ (w .2 .left)))
+        (λ w. simp (← h .inv .1, ← h .inv .2, ← w .1 .ensures, ← c .before .task-word3 .ensures, ne-eqb _ _ (w .0 .taken), w .2 .left))
         (λ w. simp (← h .inv .1, ← c .before .task-word3 .ensures, eq-eqb _ _ (w .left)))
         (c .if1 .came) in
     (omega arith, h .inv .1, h .inv .2, h .inv .3 ∙ any-miss (sharing (a .tasks .now) (a .row)) (h .k) (taskRows (a .tasks .now)) (omega arith) here)
