@@ -1,0 +1,30 @@
+-- `plan::fields::descends` meets its contract, test by test.
+use mathlib.Core.Logic.{⊎-elim}
+use mathlib.Core.Path.{_≡_, sym, ap, _∙_}
+use borrow.Author.Tests.{lt-ltb, le-ltb, eq-eqb, ne-eqb}
+use native.Mathlib.Omega.{arith}
+use borrow.Author.Needs.{needs}
+use Rattle.plan.proofs.fields.descends.Statement.{statement}
+use Rattle.plan.proofs.fields.descends.Tie as tie
+use Rattle.plan.proofs.fields.descends.Reads as reads
+use Rattle.plan.proofs.fields.descends.Lts as lts
+use Rattle.plan.proofs.rows.task_word.Reads as task-word-reads
+
+task-word-requires : tie.Need-task-word-requires
+task-word-requires c κs = search needs
+
+sub-task-word : tie.Need-sub-task-word
+sub-task-word c = search needs
+
+task-word-requires-2 : tie.Need-task-word-requires-2
+task-word-requires-2 c κs = search needs
+
+returns : tie.Need-returns
+returns c = simp (lt-ltb _ _ (c .before .before .if1 .taken), c .task-word2 .ensures, c .before .task-word .ensures)
+
+returns-2 : tie.Need-returns-2
+returns-2 c = simp (le-ltb _ _ (c .if1 .left))
+
+pub descends-spec : {M : Type 1} → statement M
+descends-spec =
+    tie.close (tie.spec task-word-requires sub-task-word task-word-requires-2 returns returns-2)

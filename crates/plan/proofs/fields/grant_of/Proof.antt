@@ -1,0 +1,28 @@
+-- `plan::fields::grant_of` meets its contract: a list reads as 0 past its end.
+use mathlib.Core.Logic.{⊎-elim}
+use mathlib.Core.Path.{_≡_, sym, ap, _∙_}
+use borrow.Author.Tests.{lt-ltb, le-ltb, eq-eqb, ne-eqb}
+use lib.ListN.{length, List·getD-eq-default}
+use native.Mathlib.Omega.{arith}
+use borrow.Author.Needs.{needs}
+use Rattle.plan.proofs.fields.grant_of.Statement.{statement}
+use Rattle.plan.proofs.fields.grant_of.Tie as tie
+use Rattle.plan.proofs.fields.grant_of.Reads as reads
+use Rattle.plan.proofs.fields.grant_of.Lts as lts
+
+mul-result : tie.Need-mul-result
+mul-result c = search needs
+
+array-read-result : tie.Need-array-read-result
+array-read-result c = search needs
+
+returns : tie.Need-returns
+returns c = search needs
+
+returns-2 : tie.Need-returns-2
+returns-2 c =
+    let len : length (c .before .before .args .board .grants) ≡ 8 = search needs in
+    sym (List·getD-eq-default (c .before .before .args .board .grants) 0 (omega arith))
+
+pub grant-of-spec : {M : Type 1} → statement M
+grant-of-spec = tie.close (tie.spec mul-result array-read-result returns returns-2)
