@@ -7,10 +7,10 @@ use mathlib.Core.List.{List, [], _∷_}
 use mathlib.Core.Path.{_≡_, sym, ap, ap₂, _∙_}
 use lib.ListN.{length, set}
 use borrow.Author.Tests.{eq-eqb, ne-eqb}
-use Rattle.lists.specs.Range.{upto, keep, lowest, isEmpty, headOr}
+use Rattle.lists.specs.Range.{upto, keep, lowest, isEmpty, headOr, lowestFrom}
 use Rattle.lists.proofs.Split.{below-or-not, neither}
 use Rattle.lists.proofs.Kept.{ahead, ahead-start, ahead-take}
-use Rattle.lists.proofs.Sought.{sought, sought-start}
+use Rattle.lists.proofs.Sought.{sought-start}
 use Rattle.lists.proofs.Found.{Found, found, missed, missed-list, none-kept, ahead-past, sought-le}
 use Rattle.refusal.specs.Reply.{Answers, test, unless}
 use Rattle.board.specs.declared.Board.{Board}
@@ -22,10 +22,10 @@ use Rattle.frames.specs.Scan.{wordAt, freeIn, stop}
 use Rattle.frames.proofs.Called.{refused, answered, page-passed, page-accepted}
 
 -- the list of those that pass, from the lowest
-kept-found : (p : ℕ → Bool) (n : ℕ) → sought p 0 n < n → keep p (upto n) ≡ sought p 0 n ∷ ahead p (sought p 0 n + 1) n
+kept-found : (p : ℕ → Bool) (n : ℕ) → lowestFrom p 0 n < n → keep p (upto n) ≡ lowestFrom p 0 n ∷ ahead p (lowestFrom p 0 n + 1) n
 kept-found p n h = ahead-start p n ∙ found p 0 n h .list
 
-kept-missed : (p : ℕ → Bool) (n : ℕ) → n ≤ sought p 0 n → keep p (upto n) ≡ []
+kept-missed : (p : ℕ → Bool) (n : ℕ) → n ≤ lowestFrom p 0 n → keep p (upto n) ≡ []
 kept-missed p n h = ahead-start p n ∙ missed-list p 0 n zero-le h
 
 module _ (b : Board) (t : List ℕ) (d p : ℕ) (ok : pageReply b (length t) d p ≡ Answers tt) where
@@ -44,7 +44,7 @@ module _ (b : Board) (t : List ℕ) (d p : ℕ) (ok : pageReply b (length t) d p
 
   -- the lowest frame with the word
   abbrev pub held : ℕ
-  held = sought has-word 0 n
+  held = lowestFrom has-word 0 n
 
   pub look-mapped : held < n → look s d p ≡ answered s (Mapped held)
   unfolding look unless settle
@@ -126,7 +126,7 @@ module _ (b : Board) (t : List ℕ) (d p : ℕ) (ok : pageReply b (length t) d p
     module _ (other : word t first ≡ wordOf d p → ⊥) where
       -- from the frame that could be taken on, only the word is looked for
       abbrev pub later : ℕ
-      later = sought has-word (first + 1) n
+      later = lowestFrom has-word (first + 1) n
 
       words-after : keep has-word (upto n) ≡ ahead has-word (first + 1) n
       words-after =

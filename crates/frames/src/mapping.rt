@@ -6,13 +6,13 @@ ghost use Rattle.calls.specs.Table.{stateOf};
 ghost use Rattle.calls.specs.Calls.{look as lookCall, fault as faultCall, release as releaseCall};
 ghost use Rattle.frames.specs.Paper.{paperLooked, paperFaulted, paperReleased};
 ghost use Rattle.frames.specs.Checks.{pageReply};
-use board::Board;
-use board::Checked;
-use board::check_call;
 use crate::recolouring::active_set;
 use crate::scan::next_word;
 use crate::scan::word_for;
 use crate::scan::word_or_free;
+use board::Board;
+use board::Checked;
+use board::check_call;
 use refusal::Refusal;
 
 const LAST_PAGE: u32 = 4095;

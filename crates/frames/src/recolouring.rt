@@ -7,12 +7,12 @@ ghost use Rattle.calls.specs.Table.{stateOf};
 ghost use Rattle.calls.specs.Calls.{colours as coloursCall, recolour as recolourCall, withActive};
 ghost use Rattle.calls.specs.Moves.{Listed};
 ghost use Rattle.frames.specs.Paper.{paperActive, paperMoved};
-use board::Board;
-use board::Checked;
-use board::check_call;
 use crate::moving::move_all;
 use crate::scan::count_free;
 use crate::scan::count_strays;
+use board::Board;
+use board::Checked;
+use board::check_call;
 use refusal::Refusal;
 
 pub enum ActiveColours {
@@ -70,27 +70,48 @@ pub fn colours(board: Board, table: &[u16], domain: u32) -> ActiveColours
 
 // The domain's frames outside the new set go to free frames inside it, and the set becomes active.
 // All is counted before anything is moved.
-pub fn recolour(board: Board, table: &mut [u16], domain: u32, set: u32, moves: &mut [u16]) -> Recoloured
+pub fn recolour(
+    board: Board,
+    table: &mut [u16],
+    domain: u32,
+    set: u32,
+    moves: &mut [u16],
+) -> Recoloured
     ensures { λ r. ⌜ paperMoved (r .answer) ≡ (recolourCall (stateOf board (now (table .entry))) domain set (now (moves .entry))) .reply ⌝ }
     ensures { λ r. ⌜ r .board ≡ (recolourCall (stateOf board (now (table .entry))) domain set (now (moves .entry))) .next .board ⌝ }
     ensures { λ r. ⌜ now (table .exit) ≡ (recolourCall (stateOf board (now (table .entry))) domain set (now (moves .entry))) .next .table ⌝ }
     ensures { λ r. ⌜ Listed ((recolourCall (stateOf board (now (table .entry))) domain set (now (moves .entry))) .moves) (now (moves .entry)) (now (moves .exit)) ⌝ }
 {
     if let Checked::Refused(refusal) = check_call(board, table.len(), domain) {
-        return Recoloured { board: board, answer: Moved::Refused(refusal) };
+        return Recoloured {
+            board: board,
+            answer: Moved::Refused(refusal),
+        };
     }
     if set == 0 || set & grant_of(board, domain) != set {
-        return Recoloured { board: board, answer: Moved::Refused(Refusal { number: 9, row: 0 }) };
+        return Recoloured {
+            board: board,
+            answer: Moved::Refused(Refusal { number: 9, row: 0 }),
+        };
     }
     let colours = board.colours as usize;
     let bits = set as usize;
     let count = count_strays(table, domain, colours, bits);
     if count_free(table, colours, bits) < count {
-        return Recoloured { board: board, answer: Moved::Refused(Refusal { number: 12, row: 0 }) };
+        return Recoloured {
+            board: board,
+            answer: Moved::Refused(Refusal { number: 12, row: 0 }),
+        };
     }
     if moves.len() < 3 * count {
-        return Recoloured { board: board, answer: Moved::Refused(Refusal { number: 13, row: 0 }) };
+        return Recoloured {
+            board: board,
+            answer: Moved::Refused(Refusal { number: 13, row: 0 }),
+        };
     }
     move_all(table, moves, domain, colours, bits, count);
-    Recoloured { board: with_active(board, domain, set), answer: Moved::Count(count as u32) }
+    Recoloured {
+        board: with_active(board, domain, set),
+        answer: Moved::Count(count as u32),
+    }
 }

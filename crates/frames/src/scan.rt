@@ -5,8 +5,7 @@ ghost use mathlib.Core.Bool.{true, not, _&&_};
 ghost use Prim.Native.Nat.{_≤_, _<_};
 ghost use lib.Dec.{eqb, leb};
 ghost use lib.ListN.{length};
-ghost use Rattle.lists.specs.Range.{keep, upto, lowest};
-ghost use Rattle.lists.proofs.Sought.{sought};
+ghost use Rattle.lists.specs.Range.{keep, upto, lowest, lowestFrom};
 ghost use Rattle.colours.specs.Cache.{isColourCount, colourOf};
 ghost use Rattle.colours.specs.Sets.{has};
 ghost use Rattle.calls.specs.Table.{wordOf};
@@ -48,7 +47,7 @@ fn is_stray(word: u16, first: u16, last: u16, colours: usize, set: usize, frame:
 // The lowest frame from one on that has a word.
 pub(crate) fn next_word(table: &[u16], start: usize, word: u16) -> usize
     requires { ⌜ start ≤ length (now table) ⌝ }
-    ensures { λ r. ⌜ r ≡ sought (wordAt (now (table .entry)) word) start (length (now (table .entry))) ⌝ }
+    ensures { λ r. ⌜ r ≡ lowestFrom (wordAt (now (table .entry)) word) start (length (now (table .entry))) ⌝ }
 {
     let mut f = start;
     while f < table.len() {
@@ -81,7 +80,7 @@ pub(crate) fn word_or_free(table: &[u16], word: u16, colours: usize, set: usize)
 // The lowest free frame from one on with a colour in a set.
 pub(crate) fn next_free(table: &[u16], start: usize, colours: usize, set: usize) -> usize
     requires { ⌜ (isColourCount colours ≡ true) × (start ≤ length (now table)) ⌝ }
-    ensures { λ r. ⌜ r ≡ sought (freeIn (now (table .entry)) colours set) start (length (now (table .entry))) ⌝ }
+    ensures { λ r. ⌜ r ≡ lowestFrom (freeIn (now (table .entry)) colours set) start (length (now (table .entry))) ⌝ }
 {
     let mut f = start;
     while f < table.len() {
@@ -94,9 +93,15 @@ pub(crate) fn next_free(table: &[u16], start: usize, colours: usize, set: usize)
 }
 
 // The lowest frame from one on that a domain holds outside a set.
-pub(crate) fn next_stray(table: &[u16], start: usize, domain: u32, colours: usize, set: usize) -> usize
+pub(crate) fn next_stray(
+    table: &[u16],
+    start: usize,
+    domain: u32,
+    colours: usize,
+    set: usize,
+) -> usize
     requires { ⌜ (isColourCount colours ≡ true) × (start ≤ length (now table)) × (domain < 8) ⌝ }
-    ensures { λ r. ⌜ r ≡ sought (strayOf (now (table .entry)) domain colours set) start (length (now (table .entry))) ⌝ }
+    ensures { λ r. ⌜ r ≡ lowestFrom (strayOf (now (table .entry)) domain colours set) start (length (now (table .entry))) ⌝ }
 {
     let first = word_for(domain, 0);
     let last = word_for(domain, 4095);

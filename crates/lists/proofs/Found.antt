@@ -5,10 +5,10 @@ use native.Mathlib.Omega.{arith}
 use mathlib.Core.Bool.{Bool, true, false}
 use mathlib.Core.List.{[], _∷_}
 use mathlib.Core.Path.{_≡_, ap, _∙_}
-use Rattle.lists.specs.Range.{upto, keep}
+use Rattle.lists.specs.Range.{upto, keep, lowestFrom}
 use Rattle.lists.proofs.Split.{cases, below-or-not}
 use Rattle.lists.proofs.Kept.{ahead, ahead-start, ahead-take, ahead-skip, ahead-end}
-use Rattle.lists.proofs.Sought.{sought, sought-hit, sought-miss, sought-end}
+use Rattle.lists.proofs.Sought.{sought-hit, sought-miss, sought-end}
 
 module _ (p : ℕ → Bool) where
   -- numbers that do not pass may be passed over
@@ -63,7 +63,7 @@ module _ (p : ℕ → Bool) where
         list = ahead-skip p i n l e ∙ r .list;
       }
 
-  found-within : (k i n : ℕ) → n ≤ i + k → sought p i n < n → Found i n (sought p i n)
+  found-within : (k i n : ℕ) → n ≤ i + k → lowestFrom p i n < n → Found i n (lowestFrom p i n)
   found-within zero i n l h = absurd (lt-irrefl n (omega (arith, sought-end p i n (omega arith))))
   found-within (suc k) i n l h =
       below-or-not i n
@@ -72,13 +72,13 @@ module _ (p : ℕ → Bool) where
       (λ e. rw (sought-hit p i n g e) (found-here i n g e))
       (λ e.
       let next = sought-miss p i n g e in
-      rw next (found-later i n (sought p (i + 1) n) g e (found-within k (i + 1) n (omega arith) (rw next at h)))))
+      rw next (found-later i n (lowestFrom p (i + 1) n) g e (found-within k (i + 1) n (omega arith) (rw next at h)))))
       (λ g. absurd (lt-irrefl n (omega (arith, sought-end p i n g))))
 
-  pub found : (i n : ℕ) → sought p i n < n → Found i n (sought p i n)
+  pub found : (i n : ℕ) → lowestFrom p i n < n → Found i n (lowestFrom p i n)
   found i n h = found-within n i n (omega arith) h
 
-  missed-within : (k i n : ℕ) → n ≤ i + k → n ≤ sought p i n → Missed i n
+  missed-within : (k i n : ℕ) → n ≤ i + k → n ≤ lowestFrom p i n → Missed i n
   missed-within zero i n l h m low high = absurd (lt-irrefl n (omega arith))
   missed-within (suc k) i n l h m low high =
       let g : i < n = omega arith in
@@ -89,14 +89,14 @@ module _ (p : ℕ → Bool) where
       (λ j. missed-within k (i + 1) n (omega arith) (rw (sought-miss p i n g e) at h) m (omega arith) high)
       (λ j. let same : m ≡ i = omega arith in rw same e))
 
-  pub missed : (i n : ℕ) → n ≤ sought p i n → Missed i n
+  pub missed : (i n : ℕ) → n ≤ lowestFrom p i n → Missed i n
   missed i n h = missed-within n i n (omega arith) h
 
-  pub missed-list : (i n : ℕ) → i ≤ n → n ≤ sought p i n → ahead p i n ≡ []
+  pub missed-list : (i n : ℕ) → i ≤ n → n ≤ lowestFrom p i n → ahead p i n ≡ []
   missed-list i n l h = ahead-past i n n l (le-refl n) (missed i n h) ∙ ahead-end p n n (le-refl n)
 
   -- no search goes beyond the range
-  pub sought-le : (i n : ℕ) → i ≤ n → sought p i n ≤ n
-  unfolding sought
+  pub sought-le : (i n : ℕ) → i ≤ n → lowestFrom p i n ≤ n
+  unfolding lowestFrom ahead
   sought-le i n l =
-      below-or-not (sought p i n) n (λ h. omega arith) (λ h. rw (missed-list i n l h) (le-refl n))
+      below-or-not (lowestFrom p i n) n (λ h. omega arith) (λ h. rw (missed-list i n l h) (le-refl n))

@@ -7,10 +7,9 @@ use mathlib.Core.List.{List, [], _∷_}
 use mathlib.Core.Path.{_≡_, refl, ap}
 use lib.ListN.{length}
 use Rattle.lists.specs.Choice.{if_then_else_}
-use Rattle.lists.specs.Range.{from, keep}
+use Rattle.lists.specs.Range.{from, keep, lowestFrom}
 use Rattle.lists.proofs.Split.{cases, below-or-not}
 use Rattle.lists.proofs.Kept.{ahead}
-use Rattle.lists.proofs.Sought.{sought}
 use Rattle.lists.proofs.Found.{missed-list}
 
 module _ (p q : ℕ → Bool) where
@@ -32,7 +31,7 @@ module _ (p : ℕ → Bool) where
       cases (p i) (λ e. rw e (omega (arith, kept-le k (suc i)))) (λ e. rw e (omega (arith, kept-le k (suc i))))
 
   -- where something is ahead, the search finds it
-  pub some-ahead : (i n : ℕ) → i ≤ n → 0 < length (ahead p i n) → sought p i n < n
+  pub some-ahead : (i n : ℕ) → i ≤ n → 0 < length (ahead p i n) → lowestFrom p i n < n
   some-ahead i n l h =
-      below-or-not (sought p i n) n (λ g. g)
+      below-or-not (lowestFrom p i n) n (λ g. g)
       (λ g. absurd (lt-irrefl 0 (omega (arith, ap length (missed-list p i n l g)))))

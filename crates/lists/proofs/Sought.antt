@@ -6,28 +6,24 @@ use native.Mathlib.Numerals.{add-one}
 use native.Mathlib.Omega.{arith}
 use mathlib.Core.Bool.{Bool, true, false}
 use mathlib.Core.Path.{_≡_, _∙_}
-use Rattle.lists.specs.Range.{from, upto, any, headOr, lowest}
+use Rattle.lists.specs.Range.{from, upto, any, headOr, lowest, lowestFrom}
 use Rattle.lists.proofs.Kept.{ahead, ahead-start, ahead-take, ahead-skip, ahead-end}
 
 module _ (p : ℕ → Bool) where
-  -- the lowest of i .. n − 1 that passes, or n
-  unfoldable pub sought : ℕ → ℕ → ℕ
-  sought i n = headOr n (ahead p i n)
-
-  pub sought-start : (n : ℕ) → lowest p n ≡ sought 0 n
-  unfolding lowest sought
+  pub sought-start : (n : ℕ) → lowest p n ≡ lowestFrom p 0 n
+  unfolding lowest lowestFrom ahead
   sought-start n = rw (ahead-start p n)
 
-  pub sought-hit : (i n : ℕ) → i < n → p i ≡ true → sought i n ≡ i
-  unfolding sought
+  pub sought-hit : (i n : ℕ) → i < n → p i ≡ true → lowestFrom p i n ≡ i
+  unfolding lowestFrom ahead
   sought-hit i n l h = rw (ahead-take p i n l h)
 
-  pub sought-miss : (i n : ℕ) → i < n → p i ≡ false → sought i n ≡ sought (i + 1) n
-  unfolding sought
+  pub sought-miss : (i n : ℕ) → i < n → p i ≡ false → lowestFrom p i n ≡ lowestFrom p (i + 1) n
+  unfolding lowestFrom ahead
   sought-miss i n l h = rw (ahead-skip p i n l h)
 
-  pub sought-end : (i n : ℕ) → n ≤ i → sought i n ≡ n
-  unfolding sought
+  pub sought-end : (i n : ℕ) → n ≤ i → lowestFrom p i n ≡ n
+  unfolding lowestFrom ahead
   sought-end i n h = rw (ahead-end p i n h)
 
   -- whether one of i .. n − 1 passes

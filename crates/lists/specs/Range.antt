@@ -1,6 +1,6 @@
 -- The numbers of a range that pass a test, ascending: "the lowest", "the next" and "ascending" of document 01 are the head, the tail
 -- and the order of such a list. It states no part of document 01 by itself.
-use Prim.Native.Nat.{ℕ, zero, suc}
+use Prim.Native.Nat.{ℕ, zero, suc, _-_}
 use mathlib.Core.Bool.{Bool, true, false, _||_}
 use mathlib.Core.List.{List, [], _∷_}
 use Rattle.lists.specs.Choice.{if_then_else_}
@@ -37,3 +37,7 @@ headOr n (x ∷ xs) = x
 -- the lowest number below n that passes a test, or n where none does
 unfoldable pub lowest : (ℕ → Bool) → ℕ → ℕ
 lowest p n = headOr n (keep p (upto n))
+
+-- the lowest number from i on and below n that passes a test, or n where none does
+unfoldable pub lowestFrom : (ℕ → Bool) → ℕ → ℕ → ℕ
+lowestFrom p i n = headOr n (keep p (from i (n - i)))

@@ -21,7 +21,7 @@ shared-grant-requires : tie.Need-shared-grant-requires
 shared-grant-requires c κs = search needs
 
 returns-2 : tie.Need-returns-2
-returns-2 c = 
+returns-2 c =
     rw
     (domain-reply, ← c .before .before .before .wrong-grant .ensures, le-ltb _ _ (c .before .before .if1 .left), ← c .before .shared-grant .ensures, lt-ltb _ _ (c .if2 .taken))
 
@@ -29,12 +29,12 @@ wrong-active-requires : tie.Need-wrong-active-requires
 wrong-active-requires c κs = search needs
 
 returns-3 : tie.Need-returns-3
-returns-3 c = 
+returns-3 c =
     rw
     (domain-reply, ← c .before .before .before .before .before .wrong-grant .ensures, le-ltb _ _ (c .before .before .before .before .if1 .left), ← c .before .before .before .shared-grant .ensures, le-ltb _ _ (c .before .before .if2 .left), ← c .before .wrong-active .ensures, lt-ltb _ _ (c .if3 .taken))
 
 returns-4 : tie.Need-returns-4
-returns-4 c = 
+returns-4 c =
     rw
     (domain-reply, ← c .before .before .before .before .before .wrong-grant .ensures, le-ltb _ _ (c .before .before .before .before .if1 .left), ← c .before .before .before .shared-grant .ensures, le-ltb _ _ (c .before .before .if2 .left), ← c .before .wrong-active .ensures, le-ltb _ _ (c .if3 .left))
 

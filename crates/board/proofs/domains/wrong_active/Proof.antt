@@ -1,4 +1,4 @@
--- `board::domains::wrong_active` meets its contract. The invariant: the domain sought is sought from `d` on.
+-- `board::domains::wrong_active` meets its contract. The invariant: the domain lowestFrom is lowestFrom from `d` on.
 use Prim.Native.Nat.{ℕ, _-_, _≤_}
 use native.Mathlib.Omega.{arith}
 use mathlib.Core.Bool.{Bool, true, false, not}
@@ -8,8 +8,8 @@ use borrow.Author.Needs.{needs}
 use borrow.Author.Tests.{eq-eqb, ne-eqb}
 use lib.ListN.{length, getD}
 use Rattle.board.specs.declared.Board.{Board}
-use Rattle.lists.specs.Range.{lowest}
-use Rattle.lists.proofs.Sought.{sought, sought-start, sought-hit, sought-miss, sought-end}
+use Rattle.lists.specs.Range.{lowest, lowestFrom}
+use Rattle.lists.proofs.Sought.{sought-start, sought-hit, sought-miss, sought-end}
 use Rattle.board.specs.Tests.{grant, activeSet, emptyOrOutside}
 use Rattle.board.proofs.domains.wrong_active.Statement.{statement}
 use Rattle.board.proofs.domains.wrong_active.Tie as tie
@@ -20,7 +20,7 @@ abbrev wrong : Board → ℕ → Bool
 wrong b i = emptyOrOutside (grant b i) (activeSet b i)
 
 abbrev Inv-loop : tie.InvT-loop
-Inv-loop board grants active d₀ d = (d ≤ board .domains) × (lowest (wrong board) (board .domains) ≡ sought (wrong board) d (board .domains))
+Inv-loop board grants active d₀ d = (d ≤ board .domains) × (lowest (wrong board) (board .domains) ≡ lowestFrom (wrong board) d (board .domains))
 
 abbrev μ-loop : tie.MeasureT-loop
 μ-loop board grants active d₀ d = board .domains - d

@@ -28,7 +28,7 @@ enum-told : tie.Need-enum-told
 enum-told c = search needs
 
 returns : tie.Need-returns
-returns c = 
+returns c =
     let first = sym (c .before .before .before .check-call .ensures) ∙ ap paperChecked (c .before .refusal .given .1) in
     sym (ten-refused _ _ _ _ _ _ first)
 

@@ -5,8 +5,7 @@ use native.Mathlib.Omega.{arith}
 use mathlib.Core.List.{List}
 use mathlib.Core.Path.{_≡_, sym, ap, ap₂, _∙_}
 use lib.ListN.{length}
-use Rattle.lists.specs.Range.{lowest}
-use Rattle.lists.proofs.Sought.{sought}
+use Rattle.lists.specs.Range.{lowest, lowestFrom}
 use Rattle.refusal.specs.Reply.{Answers}
 use Rattle.board.specs.Paper.{paperChecked}
 use Rattle.calls.specs.Table.{word, wordOf}
@@ -55,7 +54,7 @@ later-is : (c : tie.After-next-word) → c .next-word .result ≡ later (c .befo
 later-is c =
     let t : List ℕ = c .before .before .before .before .before .before .before .before .before .before .before .before .before .before .args .table .now in
     c .next-word .ensures
-    ∙ ap₂ (λ (w f : ℕ). sought (wordAt t w) (f + 1) (length t)) (c .before .before .before .before .before .before .before .before .before .word-for .ensures) (first-is (c .before .before .before .before .before))
+    ∙ ap₂ (λ (w f : ℕ). lowestFrom (wordAt t w) (f + 1) (length t)) (c .before .before .before .before .before .before .before .before .before .word-for .ensures) (first-is (c .before .before .before .before .before))
 
 check-page-requires : tie.Need-check-page-requires
 check-page-requires c κs = search needs
@@ -65,7 +64,7 @@ enum-known-refusal c = search needs
 
 returns : tie.Need-returns
 unfolding fault
-returns c = 
+returns c =
     let a = c .before .before .before .before .before .args in
     let start = sym (c .before .before .before .check-page .ensures) ∙ ap paperChecked (c .before .refusal .given .1) in
     let e = page-refused _ (a .domain) (a .page) _ _ _ _ start in
@@ -93,7 +92,7 @@ same-length : tie.Need-same-length
 same-length c = search needs
 
 returns-2 : tie.Need-returns-2
-returns-2 c = 
+returns-2 c =
     let n : ℕ = length (c .before .before .before .before .before .before .before .before .before .before .args .table .now) in
     let none : n ≤ first (c .before .before .before .before .before .before .before .before .before .before .args .board) (c .before .before .before .before .before .before .before .before .before .before .args .table .now) (c .before .before .before .before .before .before .before .before .before .before .args .domain) (c .before .before .before .before .before .before .before .before .before .before .args .page) (ok (c .before .before .before .before .before .before)) = omega (arith, first-is (c .before)) in
     let e = fault-none _ _ _ _ (ok (c .before .before .before .before .before .before)) none in
@@ -112,7 +111,7 @@ same-length-2 : tie.Need-same-length-2
 same-length-2 c = search needs
 
 returns-3 : tie.Need-returns-3
-returns-3 c = 
+returns-3 c =
     let is = first-is (c .before .before .before) in
     let at : word (c .before .before .before .before .before .before .before .before .before .before .before .before .args .table .now) (first (c .before .before .before .before .before .before .before .before .before .before .before .before .args .board) (c .before .before .before .before .before .before .before .before .before .before .before .before .args .table .now) (c .before .before .before .before .before .before .before .before .before .before .before .before .args .domain) (c .before .before .before .before .before .before .before .before .before .before .before .before .args .page) (ok (c .before .before .before .before .before .before .before .before))) ≡ wordOf (c .before .before .before .before .before .before .before .before .before .before .before .before .args .domain) (c .before .before .before .before .before .before .before .before .before .before .before .before .args .page) = sym (ap (word (c .before .before .before .before .before .before .before .before .before .before .before .before .args .table .now)) is) ∙ c .if2 .taken ∙ c .before .before .before .before .before .before .before .word-for .ensures in
     let e = fault-here _ _ _ _ (ok (c .before .before .before .before .before .before .before .before)) (first-below (c .before .before)) at in
@@ -131,7 +130,7 @@ same-length-3 : tie.Need-same-length-3
 same-length-3 c = search needs
 
 returns-4 : tie.Need-returns-4
-returns-4 c = 
+returns-4 c =
     let is = later-is (c .before) in
     let e = fault-later _ _ _ _ (ok (c .before .before .before .before .before .before .before .before .before .before .before)) (first-below (c .before .before .before .before .before)) (other (c .before .before .before)) (rw is at (c .if3 .taken)) in
     (rw is (sym (ap (λ (o : Outcome). o .reply) e)), sym (ap (λ (o : Outcome). o .next .table) e))
@@ -149,7 +148,7 @@ same-length-4 : tie.Need-same-length-4
 same-length-4 c = search needs
 
 returns-5 : tie.Need-returns-5
-returns-5 c = 
+returns-5 c =
     let is = first-is (c .before .before .before .before .before .before) in
     let e = fault-new _ _ _ _ (ok (c .before .before .before .before .before .before .before .before .before .before .before)) (first-below (c .before .before .before .before .before)) (other (c .before .before .before)) (rw (later-is (c .before)) at (c .if3 .left)) in
     (rw is (sym (ap (λ (o : Outcome). o .reply) e)), rw (is, c .before .before .before .before .before .before .before .before .before .before .word-for .ensures) (sym (ap (λ (o : Outcome). o .next .table) e)))

@@ -4,8 +4,8 @@ use native.Mathlib.Omega.{arith}
 use mathlib.Core.List.{List}
 use mathlib.Core.Path.{_≡_, sym, ap, _∙_}
 use lib.ListN.{length}
+use Rattle.lists.specs.Range.{lowestFrom}
 use Rattle.refusal.specs.Reply.{Answers, unless}
-use Rattle.lists.proofs.Sought.{sought}
 use Rattle.lists.proofs.Found.{sought-le}
 use Rattle.board.specs.Paper.{paperChecked}
 use Rattle.calls.specs.Table.{wordOf}
@@ -33,10 +33,10 @@ ok c = sym (c .before .before .check-page .ensures) ∙ ap paperChecked (c .enum
 found-is :
     (c : tie.After-next-word)
     → c .next-word .result
-    ≡ sought (wordAt (c .before .before .before .before .before .before .before .args .table .now) (wordOf (c .before .before .before .before .before .before .before .args .domain) (c .before .before .before .before .before .before .before .args .page))) 0 (length (c .before .before .before .before .before .before .before .args .table .now))
+    ≡ lowestFrom (wordAt (c .before .before .before .before .before .before .before .args .table .now) (wordOf (c .before .before .before .before .before .before .before .args .domain) (c .before .before .before .before .before .before .before .args .page))) 0 (length (c .before .before .before .before .before .before .before .args .table .now))
 found-is c =
     let t : List ℕ = c .before .before .before .before .before .before .before .args .table .now in
-    c .next-word .ensures ∙ ap (λ (w : ℕ). sought (wordAt t w) 0 (length t)) (c .before .word-for .ensures)
+    c .next-word .ensures ∙ ap (λ (w : ℕ). lowestFrom (wordAt t w) 0 (length t)) (c .before .word-for .ensures)
 
 -- a page that is not unmapped
 below : (c : tie.Else1) → c .before .next-word .result < length (c .before .before .before .before .before .before .before .before .args .table .now)
@@ -52,7 +52,7 @@ enum-known-refusal c = search needs
 
 returns : tie.Need-returns
 unfolding release
-returns c = 
+returns c =
     let a = c .before .before .before .before .before .args in
     let first = sym (c .before .before .before .check-page .ensures) ∙ ap paperChecked (c .before .refusal .given .1) in
     let e = page-refused _ (a .domain) (a .page) _ _ _ _ first in
@@ -74,7 +74,7 @@ returns-2 : tie.Need-returns-2
 returns-2 c =
     let a = c .before .before .before .before .before .before .before .before .args in
     let t : List ℕ = a .table .now in
-    let none : length t ≤ sought (wordAt t (wordOf (a .domain) (a .page))) 0 (length t) = omega (arith, found-is (c .before)) in
+    let none : length t ≤ lowestFrom (wordAt t (wordOf (a .domain) (a .page))) 0 (length t) = omega (arith, found-is (c .before)) in
     let e = release-unmapped _ _ _ _ (ok (c .before .before .before .before)) none in
     (sym (ap (λ (o : Outcome). o .reply) e), sym (ap (λ (o : Outcome). o .next .table) e))
 
@@ -91,7 +91,7 @@ same-length-2 : tie.Need-same-length-2
 same-length-2 c = search needs
 
 returns-3 : tie.Need-returns-3
-returns-3 c = 
+returns-3 c =
     let is = found-is (c .before) in
     let e = release-mapped _ _ _ _ (ok (c .before .before .before .before)) (rw is at (below c)) in
     (rw is (sym (ap (λ (o : Outcome). o .reply) e)), rw is (sym (ap (λ (o : Outcome). o .next .table) e)))

@@ -35,14 +35,14 @@ active-set-requires c κs = omega (arith, accepted _ _ _ (ok c))
 
 returns : tie.Need-returns
 unfolding colours
-returns c = 
+returns c =
     let a = c .before .before .before .before .before .args in
     let first = sym (c .before .before .before .check-call .ensures) ∙ ap paperChecked (c .before .refusal .given .1) in
     sym (ap (λ (o : Outcome). o .reply) (call-refused _ (a .domain) _ _ _ _ first))
 
 returns-2 : tie.Need-returns-2
 unfolding colours unless settle
-returns-2 c = 
+returns-2 c =
     let a = c .before .before .before .before .before .args in
     rw (c .active-set .ensures) (sym (ap (λ (o : Outcome). o .reply) (call-passed _ (a .domain) _ _ (ok (c .before)))))
 

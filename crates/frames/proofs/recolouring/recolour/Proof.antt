@@ -76,7 +76,7 @@ enum-known-refusal c = search needs
 
 returns : tie.Need-returns
 unfolding recolour
-returns c = 
+returns c =
     let a = c .before .before .before .before .before .before .args in
     let first = sym (c .before .before .before .check-call .ensures) ∙ ap paperChecked (c .before .refusal .given .1) in
     refusal-meets _ _ _ _ (a .moves .now) (call-refused _ (a .domain) _ _ _ _ first)
@@ -88,7 +88,7 @@ grant-of-requires : tie.Need-grant-of-requires
 grant-of-requires c κs = omega (arith, accepted _ _ _ (ok (c .before)))
 
 returns-2 : tie.Need-returns-2
-returns-2 c = 
+returns-2 c =
     let a = c .before .before .before .before .before .before .args in
     let nine : emptyOrOutside (grant (a .board) (a .domain)) (a .set) ≡ true = ⊎-elim (λ w. simp (eq-eqb _ _ (w .taken))) (λ w. rw (ne-eqb _ _ (w .0 .left)) (ap (λ (g : ℕ). not (eqb (bitAnd (a .set) g) (a .set))) (sym (w .1 .ensures)) ∙ w .2 .taken)) (c .if1 .came) in
     refusal-meets _ _ _ _ (a .moves .now) (recolour-nine (c .before .before .before .before .before .before .args .board) (c .before .before .before .before .before .before .args .table .now) (c .before .before .before .before .before .before .args .domain) (c .before .before .before .before .before .before .args .set) (c .before .before .before .before .before .before .args .moves .now) (ok (c .before)) nine)
@@ -106,7 +106,7 @@ same-length : tie.Need-same-length
 same-length c = search needs
 
 returns-3 : tie.Need-returns-3
-returns-3 c = 
+returns-3 c =
     let e = recolour-twelve (c .before .before .before .before .before .before .before .before .before .before .before .before .before .before .args .board) (c .before .before .before .before .before .before .before .before .before .before .before .before .before .before .args .table .now) (c .before .before .before .before .before .before .before .before .before .before .before .before .before .before .args .domain) (c .before .before .before .before .before .before .before .before .before .before .before .before .before .before .args .set) (c .before .before .before .before .before .before .before .before .before .before .before .before .before .before .args .moves .now) (ok (c .before .before .before .before .before .before .before .before .before)) (passes-9 (c .before .before .before .before .before .before)) (rw (← c .before .before .before .count-strays .ensures, ← c .before .count-free .ensures) (c .if3 .taken)) in
     refusal-meets _ _ _ _ (c .before .before .before .before .before .before .before .before .before .before .before .before .before .before .args .moves .now) e
 
@@ -117,7 +117,7 @@ same-length-2 : tie.Need-same-length-2
 same-length-2 c = search needs
 
 returns-4 : tie.Need-returns-4
-returns-4 c = 
+returns-4 c =
     let e = recolour-thirteen (c .before .before .before .before .before .before .before .before .before .before .before .before .before .before .before .args .board) (c .before .before .before .before .before .before .before .before .before .before .before .before .before .before .before .args .table .now) (c .before .before .before .before .before .before .before .before .before .before .before .before .before .before .before .args .domain) (c .before .before .before .before .before .before .before .before .before .before .before .before .before .before .before .args .set) (c .before .before .before .before .before .before .before .before .before .before .before .before .before .before .before .args .moves .now) (ok (c .before .before .before .before .before .before .before .before .before .before)) (passes-9 (c .before .before .before .before .before .before .before)) (room (c .before)) (rw (← c .before .before .before .before .count-strays .ensures) (c .if4 .taken)) in
     refusal-meets _ _ _ _ (c .before .before .before .before .before .before .before .before .before .before .before .before .before .before .before .args .moves .now) e
 
@@ -137,7 +137,7 @@ same-length-4 : tie.Need-same-length-4
 same-length-4 c = search needs
 
 returns-5 : tie.Need-returns-5
-returns-5 c = 
+returns-5 c =
     let e = recolour-done (c .before .before .before .before .before .before .before .before .before .before .before .before .before .before .before .before .before .before .before .before .before .before .before .args .board) (c .before .before .before .before .before .before .before .before .before .before .before .before .before .before .before .before .before .before .before .before .before .before .before .args .table .now) (c .before .before .before .before .before .before .before .before .before .before .before .before .before .before .before .before .before .before .before .before .before .before .before .args .domain) (c .before .before .before .before .before .before .before .before .before .before .before .before .before .before .before .before .before .before .before .before .before .before .before .args .set) (c .before .before .before .before .before .before .before .before .before .before .before .before .before .before .before .before .before .before .before .before .before .before .before .args .moves .now) (ok (c .before .before .before .before .before .before .before .before .before .before .before .before .before .before .before .before .before .before)) (passes-9 (c .before .before .before .before .before .before .before .before .before .before .before .before .before .before .before)) (room (c .before .before .before .before .before .before .before .before .before)) (lent (c .before .before .before .before .before .before .before .before)) in
     rw e
     (ap (λ (k : ℕ). Answers (Moved k)) (c .before .before .before .before .before .before .before .before .before .before .before .before .count-strays .ensures), (c .with-active .ensures, (c .before .before .before .before .before .move-all .ensures .0, rw (c .before .before .before .before .before .move-all .ensures .1) (listed (c .before .before .before .before .before .before .before .before .before .before .before .before .before .before .before .before .before .before .before .before .before .before .before .args .board) (c .before .before .before .before .before .before .before .before .before .before .before .before .before .before .before .before .before .before .before .before .before .before .before .args .table .now) (c .before .before .before .before .before .before .before .before .before .before .before .before .before .before .before .before .before .before .before .before .before .before .before .args .domain) (c .before .before .before .before .before .before .before .before .before .before .before .before .before .before .before .before .before .before .before .before .before .before .before .args .set) (c .before .before .before .before .before .before .before .before .before .before .before .before .before .before .before .before .before .before .before .before .before .before .before .args .moves .now) (ok (c .before .before .before .before .before .before .before .before .before .before .before .before .before .before .before .before .before .before)) _ (movable (c .before .before .before .before .before .before .before .before))))))

@@ -1,4 +1,4 @@
--- `frames::scan::next_word` meets its contract. The invariant: the frame sought is sought from `f` on.
+-- `frames::scan::next_word` meets its contract. The invariant: the frame lowestFrom is lowestFrom from `f` on.
 use Prim.Native.Nat.{ℕ, _+_, _-_, _≤_, _<_}
 use native.Mathlib.Omega.{arith}
 use mathlib.Core.Bool.{true, false}
@@ -8,7 +8,8 @@ use mathlib.Core.Path.{_≡_, refl, sym, ap, _∙_}
 use borrow.Author.Needs.{needs}
 use borrow.Author.Tests.{eq-eqb, ne-eqb, le-leb, lt-leb}
 use lib.ListN.{length, getD}
-use Rattle.lists.proofs.Sought.{sought, sought-start, sought-hit, sought-miss, sought-end}
+use Rattle.lists.specs.Range.{lowestFrom}
+use Rattle.lists.proofs.Sought.{sought-start, sought-hit, sought-miss, sought-end}
 use Rattle.frames.specs.Scan.{wordAt}
 use Rattle.frames.proofs.scan.next_word.Statement.{statement}
 use Rattle.frames.proofs.scan.next_word.Tie as tie
@@ -16,7 +17,7 @@ use Rattle.frames.proofs.scan.next_word.Reads as reads
 use Rattle.frames.proofs.scan.next_word.Lts as lts
 
 abbrev Inv-loop : tie.InvT-loop
-Inv-loop table start word f₀ f = (f ≤ length table) × (sought (wordAt table word) start (length table) ≡ sought (wordAt table word) f (length table))
+Inv-loop table start word f₀ f = (f ≤ length table) × (lowestFrom (wordAt table word) start (length table) ≡ lowestFrom (wordAt table word) f (length table))
 
 abbrev μ-loop : tie.MeasureT-loop
 μ-loop table start word f₀ f = length table - f

@@ -1,4 +1,4 @@
--- `frames::scan::word_or_free` meets its contract. The invariant: the frame sought is sought from `f` on.
+-- `frames::scan::word_or_free` meets its contract. The invariant: the frame lowestFrom is lowestFrom from `f` on.
 use Prim.Native.Nat.{ℕ, _+_, _-_, _≤_, _<_}
 use native.Mathlib.Omega.{arith}
 use mathlib.Core.Bool.{true, false}
@@ -8,8 +8,8 @@ use mathlib.Core.Path.{_≡_, refl, sym, ap, _∙_}
 use borrow.Author.Needs.{needs}
 use borrow.Author.Tests.{eq-eqb, ne-eqb, le-leb, lt-leb}
 use lib.ListN.{length, getD}
-use Rattle.lists.specs.Range.{lowest}
-use Rattle.lists.proofs.Sought.{sought, sought-start, sought-hit, sought-miss, sought-end}
+use Rattle.lists.specs.Range.{lowest, lowestFrom}
+use Rattle.lists.proofs.Sought.{sought-start, sought-hit, sought-miss, sought-end}
 use Rattle.frames.specs.Scan.{stop}
 use Rattle.frames.proofs.scan.word_or_free.Statement.{statement}
 use Rattle.frames.proofs.scan.word_or_free.Tie as tie
@@ -18,7 +18,7 @@ use Rattle.frames.proofs.scan.word_or_free.Lts as lts
 use Rattle.frames.proofs.scan.is_free_in.Reads as is-free-in-reads
 
 abbrev Inv-loop : tie.InvT-loop
-Inv-loop table word colours set f₀ f = (f ≤ length table) × (lowest (stop table word colours set) (length table) ≡ sought (stop table word colours set) f (length table))
+Inv-loop table word colours set f₀ f = (f ≤ length table) × (lowest (stop table word colours set) (length table) ≡ lowestFrom (stop table word colours set) f (length table))
 
 abbrev μ-loop : tie.MeasureT-loop
 μ-loop table word colours set f₀ f = length table - f
