@@ -8,9 +8,9 @@ ghost use Rattle.refusal.specs.Reply.{unless};
 ghost use Rattle.colours.specs.Sets.{isColourSet};
 ghost use Rattle.board.specs.Tests.{grant, activeSet, sharesWithAnother, emptyOrOutside, domainTests};
 ghost use Rattle.board.specs.Paper.{paperChecked};
-use colours::is_colour_set;
 use crate::Board;
 use crate::Checked;
+use colours::is_colour_set;
 use refusal::Refusal;
 
 pub(crate) fn check_domains(board: Board) -> Checked
@@ -20,15 +20,24 @@ pub(crate) fn check_domains(board: Board) -> Checked
     let count = board.domains;
     let granted = wrong_grant(board);
     if granted < count {
-        return Checked::Refused(Refusal { number: 5, row: granted });
+        return Checked::Refused(Refusal {
+            number: 5,
+            row: granted,
+        });
     }
     let shared = shared_grant(board);
     if shared < count {
-        return Checked::Refused(Refusal { number: 6, row: shared });
+        return Checked::Refused(Refusal {
+            number: 6,
+            row: shared,
+        });
     }
     let active = wrong_active(board);
     if active < count {
-        return Checked::Refused(Refusal { number: 7, row: active });
+        return Checked::Refused(Refusal {
+            number: 7,
+            row: active,
+        });
     }
     Checked::Accepted
 }

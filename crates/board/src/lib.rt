@@ -5,8 +5,8 @@ mod domains;
 ghost use mathlib.Core.Path.{_≡_};
 ghost use Rattle.board.specs.Tests.{boardReply, callReply};
 ghost use Rattle.board.specs.Paper.{paperChecked};
-use colours::is_colour_count;
 use crate::domains::check_domains;
+use colours::is_colour_count;
 use refusal::Refusal;
 
 const MOST_FRAMES: u32 = 4096;
