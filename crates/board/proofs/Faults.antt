@@ -1,12 +1,12 @@
 -- Refusals 5 to 7 one after the other: the lowest domain at fault for the first of the three numbers that has one.
 use Prim.Native.Nat.{ℕ}
 use mathlib.Core.Bool.{not}
-use mathlib.Core.List.{List, [], _++_, append-nil, append-assoc}
-use mathlib.Core.Path.{_≡_, sym, _∙_}
+use mathlib.Core.List.{[], _++_, append-nil, append-assoc}
+use mathlib.Core.Path.{_≡_, sym}
 use lib.Dec.{ltb}
 use Rattle.lists.specs.Choice.{if_then_else_}
 use Rattle.lists.specs.Range.{lowest}
-use Rattle.refusal.specs.Reply.{Answers, Refuses, Test, each, unless}
+use Rattle.refusal.specs.Reply.{Answers, Refuses, each, unless}
 use Rattle.refusal.proofs.Order.{unless-each}
 use Rattle.colours.specs.Sets.{isColourSet}
 use Rattle.board.specs.declared.Board.{Board}

@@ -1,10 +1,10 @@
 -- From the reply of 2 to 8, or of 2 to 8 and 10, to the outcome of a call: a refusal settles it, and otherwise the call's own tests do.
 use Prim.Native.Nat.{ℕ, _≤_}
 use mathlib.Core.List.{List, [], _∷_, _++_, append-assoc}
-use mathlib.Core.Path.{_≡_, refl, sym, ap, _∙_}
+use mathlib.Core.Path.{_≡_, sym, ap, _∙_}
 use lib.ListN.{length}
 use borrow.Author.Tests.{ltb-false}
-use Rattle.refusal.specs.Reply.{Reply, Answers, Refuses, Test, unless}
+use Rattle.refusal.specs.Reply.{Answers, Refuses, Test, unless}
 use Rattle.refusal.proofs.Replies.{passed-first, passed-answers, answers-passed}
 use Rattle.refusal.proofs.Order.{unless-refused, unless-passed, passed-earlier, passed-later}
 use Rattle.board.specs.declared.Board.{Board}
@@ -20,6 +20,10 @@ refused s n r = record { reply = Refuses n r; moves = []; next = s }
 
 abbrev pub answered : State → Answer → Outcome
 answered s a = record { reply = Answers a; moves = []; next = s }
+
+-- what the outcome of a call on the table says: its reply, and the table that it leaves
+pub told-by : (o p : Outcome) → o ≡ p → (p .reply ≡ o .reply) × (p .next .table ≡ o .next .table)
+told-by o p e = (sym (ap (λ (q : Outcome). q .reply) e), sym (ap (λ (q : Outcome). q .next .table) e))
 
 -- 2 to 8 and the first of a call's own tests come before the others
 module _ (s : State) (d : ℕ) (first rest : List Test) (done : Done) where

@@ -1,7 +1,7 @@
 -- Recolour on a table whose call tests pass, in terms of the two counts that the code takes, and what its move list then is.
 use Prim.Native.Nat.{ℕ, _*_, _<_, _≤_}
 use mathlib.Core.Bool.{true, false}
-use mathlib.Core.List.{List, [], _∷_, _++_, List·Permᴰ, Permᴰ·refl}
+use mathlib.Core.List.{List, [], _∷_, _++_, Permᴰ·refl}
 use mathlib.Core.Path.{_≡_, refl, sym, ap, ap₂, _∙_}
 use lib.Dec.{ltb}
 use lib.ListN.{length, drop}
@@ -25,10 +25,14 @@ Meets o answer b t before after =
     (answer ≡ o .reply) × ((b ≡ o .next .board) × ((t ≡ o .next .table) × Listed (o .moves) before after))
 
 -- a refusal leaves all as it was
-pub refusal-meets : (o : Outcome) (s : State) (n r : ℕ) (m : List ℕ) → o ≡ refused s n r → Meets o (Refuses n r) (s .board) (s .table) m m
+pub refusal-meets :
+    (o : Outcome) (s : State) (n r : ℕ) (m : List ℕ) (answer : Reply Answer) (b : Board)
+    → (b ≡ s .board) × (answer ≡ Refuses n r)
+    → o ≡ refused s n r
+    → Meets o answer b (s .table) m m
 unfolding triples
-refusal-meets o s n r m e =
-    rw e (refl, (refl, (refl, record { order = []; each-once = Permᴰ·refl []; words = refl })))
+refusal-meets o s n r m answer b p e =
+    rw e (p .1, (p .0, (refl, record { order = []; each-once = Permᴰ·refl []; words = refl })))
 
 module _ (b : Board) (t : List ℕ) (d c : ℕ) (m : List ℕ) (ok : callReply b (length t) d ≡ Answers tt) where
   abbrev s : State
@@ -66,6 +70,15 @@ module _ (b : Board) (t : List ℕ) (d c : ℕ) (m : List ℕ) (ok : callReply b
   unfolding recolour
   recolour-is = call-passed s d _ _ ok ∙ ap₂ recoloured strays-is choices-is
 
+  -- the triples are the moves in their order
+  listed :
+      (count : ℕ)
+      → Movable t m d (b .colours) c count
+      → Listed (movesOn t d (b .colours) c) m (triples (movesOn t d (b .colours) c) ++ drop (3 * count) m)
+  listed count r =
+      let ms = movesOn t d (b .colours) c in
+      record { order = ms; each-once = Permᴰ·refl ms; words = ap (λ (k : ℕ). triples ms ++ drop (3 * k) m) (sym (moves-count d (b .colours) c t m count r)) }
+
   pub recolour-nine : emptyOrOutside (grant b d) c ≡ true → recolour s d c m ≡ refused s 9 0
   unfolding unless settle
   recolour-nine e = recolour-is ∙ simp e
@@ -81,7 +94,7 @@ module _ (b : Board) (t : List ℕ) (d c : ℕ) (m : List ℕ) (ok : callReply b
       recolour-thirteen l =
           recolour-is ∙ simp (nine, le-ltb (length free) (length held) room, lt-ltb (length m) (3 * length held) l)
 
-      abbrev pub whole : Outcome
+      abbrev whole : Outcome
       whole =
           record {
             reply = Answers (Moved (length held));
@@ -89,16 +102,20 @@ module _ (b : Board) (t : List ℕ) (d c : ℕ) (m : List ℕ) (ok : callReply b
             next = record { board = withActive b d c; table = moveAll t (movesOn t d (b .colours) c) };
           }
 
-      pub recolour-done : 3 * length held ≤ length m → recolour s d c m ≡ whole
+      recolour-done : 3 * length held ≤ length m → recolour s d c m ≡ whole
       unfolding unless settle movesOn
       recolour-done l =
           recolour-is ∙ simp (nine, le-ltb (length free) (length held) room, le-ltb (length m) (3 * length held) l)
 
-  -- the triples are the moves in their order
-  pub listed :
-      (count : ℕ)
-      → Movable t m d (b .colours) c count
-      → Listed (movesOn t d (b .colours) c) m (triples (movesOn t d (b .colours) c) ++ drop (3 * count) m)
-  listed count r =
-      let ms = movesOn t d (b .colours) c in
-      record { order = ms; each-once = Permᴰ·refl ms; words = ap (λ (k : ℕ). triples ms ++ drop (3 * k) m) (sym (moves-count d (b .colours) c t m count r)) }
+      -- what the code leaves is what the outcome says
+      pub recolour-meets :
+          3 * length held ≤ length m
+          → (count : ℕ)
+          → Movable t m d (b .colours) c count
+          → (next : Board) (table list : List ℕ)
+          → next ≡ withActive b d c
+          → (table ≡ moveAll t (movesOn t d (b .colours) c)) × (list ≡ triples (movesOn t d (b .colours) c) ++ drop (3 * count) m)
+          → Meets (recolour s d c m) (Answers (Moved count)) next table m list
+      recolour-meets l count r next table list be te =
+          rw (recolour-done l, te .1)
+          (ap (λ (k : ℕ). Answers (Moved k)) (r .counted), (be, (te .0, listed count r)))

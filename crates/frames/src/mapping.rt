@@ -101,10 +101,10 @@ pub fn release(board: Board, table: &mut [u16], domain: u32, page: u32) -> Relea
     if let Checked::Refused(refusal) = check_page(board, table.len(), domain, page) {
         return Released::Refused(refusal);
     }
-    let frame = next_word(table, 0, word_for(domain, page));
-    if frame == table.len() {
+    let held = next_word(table, 0, word_for(domain, page));
+    if held == table.len() {
         return Released::Refused(Refusal { number: 14, row: 0 });
     }
-    table[frame] = 0;
-    Released::Frame(frame as u32)
+    table[held] = 0;
+    Released::Frame(held as u32)
 }

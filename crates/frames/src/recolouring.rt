@@ -2,6 +2,7 @@
 // 2 to 9, 12 and 13. Only recolour changes the board, and hands it back beside its answer.
 ghost use mathlib.Core.Path.{_≡_};
 ghost use Prim.Native.Nat.{_<_};
+ghost use Rattle.refusal.specs.Reply.{Refuses};
 ghost use Rattle.board.specs.Tests.{grant, activeSet};
 ghost use Rattle.calls.specs.Table.{stateOf};
 ghost use Rattle.calls.specs.Calls.{colours as coloursCall, recolour as recolourCall, withActive};
@@ -68,6 +69,16 @@ pub fn colours(board: Board, table: &[u16], domain: u32) -> ActiveColours
     }
 }
 
+// A refusal, with the board as it was.
+fn refused(board: Board, refusal: Refusal) -> Recoloured
+    ensures { λ r. ⌜ (r .board ≡ board) × (paperMoved (r .answer) ≡ Refuses (refusal .number) (refusal .row)) ⌝ }
+{
+    Recoloured {
+        board: board,
+        answer: Moved::Refused(refusal),
+    }
+}
+
 // The domain's frames outside the new set go to free frames inside it, and the set becomes active.
 // All is counted before anything is moved.
 pub fn recolour(
@@ -83,31 +94,19 @@ pub fn recolour(
     ensures { λ r. ⌜ Listed ((recolourCall (stateOf board (now (table .entry))) domain set (now (moves .entry))) .moves) (now (moves .entry)) (now (moves .exit)) ⌝ }
 {
     if let Checked::Refused(refusal) = check_call(board, table.len(), domain) {
-        return Recoloured {
-            board: board,
-            answer: Moved::Refused(refusal),
-        };
+        return refused(board, refusal);
     }
     if set == 0 || set & grant_of(board, domain) != set {
-        return Recoloured {
-            board: board,
-            answer: Moved::Refused(Refusal { number: 9, row: 0 }),
-        };
+        return refused(board, Refusal { number: 9, row: 0 });
     }
     let colours = board.colours as usize;
     let bits = set as usize;
     let count = count_strays(table, domain, colours, bits);
     if count_free(table, colours, bits) < count {
-        return Recoloured {
-            board: board,
-            answer: Moved::Refused(Refusal { number: 12, row: 0 }),
-        };
+        return refused(board, Refusal { number: 12, row: 0 });
     }
     if moves.len() < 3 * count {
-        return Recoloured {
-            board: board,
-            answer: Moved::Refused(Refusal { number: 13, row: 0 }),
-        };
+        return refused(board, Refusal { number: 13, row: 0 });
     }
     move_all(table, moves, domain, colours, bits, count);
     Recoloured {

@@ -3,10 +3,8 @@ use Prim.Native.Nat.{ℕ, zero, suc, _-_, _<_, _≤_}
 use native.Mathlib.Nat.{le-refl, lt-irrefl}
 use native.Mathlib.Omega.{arith}
 use mathlib.Core.Bool.{Bool}
-use mathlib.Core.List.{List, [], _∷_}
 use mathlib.Core.Path.{_≡_, refl, ap}
 use lib.ListN.{length}
-use Rattle.lists.specs.Choice.{if_then_else_}
 use Rattle.lists.specs.Range.{from, keep, lowestFrom}
 use Rattle.lists.proofs.Split.{cases, below-or-not}
 use Rattle.lists.proofs.Kept.{ahead}

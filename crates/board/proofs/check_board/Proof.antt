@@ -3,17 +3,13 @@ use mathlib.Core.Bool.{true, false, not, _||_}
 use mathlib.Core.Logic.{⊎-elim}
 use mathlib.Core.Path.{_≡_, sym, _∙_}
 use lib.Dec.{eqb, ltb}
-use borrow.Author.Tests.{lt-ltb, le-ltb, eq-eqb, ne-eqb, not-true, not-false}
+use borrow.Author.Tests.{eq-eqb, ne-eqb, not-true, not-false}
+use borrow.Author.Needs.{needs}
 use Rattle.refusal.specs.Reply.{unless}
 use Rattle.colours.specs.Cache.{isColourCount}
 use Rattle.board.specs.Tests.{boardReply, boardTests, sizeTests}
-use borrow.Author.Needs.{needs}
 use Rattle.board.proofs.check_board.Statement.{statement}
 use Rattle.board.proofs.check_board.Tie as tie
-use Rattle.board.proofs.check_board.Reads as reads
-use Rattle.board.proofs.check_board.Lts as lts
-use Rattle.board.proofs.domains.check_domains.Reads as check-domains-reads
-use Rattle.colours.proofs.is_colour_count.Reads as is-colour-count-reads
 
 passes-2 : (c : tie.Else1) → isColourCount (c .before .before .args .board .colours) ≡ true
 passes-2 c = sym (c .before .is-colour-count .ensures) ∙ not-false _ (c .if1 .left)

@@ -2,16 +2,13 @@
 use mathlib.Core.List.{[], _∷_}
 use mathlib.Core.Path.{_≡_, sym, ap, _∙_}
 use borrow.Author.Tests.{lt-ltb, le-ltb}
+use borrow.Author.Needs.{needs}
 use Rattle.refusal.specs.Reply.{unless}
 use Rattle.refusal.proofs.Order.{unless-refused, unless-passed}
 use Rattle.board.specs.Paper.{paperChecked}
 use Rattle.board.specs.Tests.{boardReply, boardTests, callReply, callerTest}
-use borrow.Author.Needs.{needs}
 use Rattle.board.proofs.check_call.Statement.{statement}
 use Rattle.board.proofs.check_call.Tie as tie
-use Rattle.board.proofs.check_call.Reads as reads
-use Rattle.board.proofs.check_call.Lts as lts
-use Rattle.board.proofs.check_board.Reads as check-board-reads
 
 -- where 2 to 7 pass, 8 is left
 last :

@@ -1,15 +1,9 @@
 -- `board::domains::check_domains` meets its contract: refusals 5 to 7 in their order (`Faults`).
-use mathlib.Core.Path.{_≡_, sym, _∙_}
 use borrow.Author.Tests.{lt-ltb, le-ltb}
-use Rattle.board.proofs.Faults.{domain-reply}
 use borrow.Author.Needs.{needs}
+use Rattle.board.proofs.Faults.{domain-reply}
 use Rattle.board.proofs.domains.check_domains.Statement.{statement}
 use Rattle.board.proofs.domains.check_domains.Tie as tie
-use Rattle.board.proofs.domains.check_domains.Reads as reads
-use Rattle.board.proofs.domains.check_domains.Lts as lts
-use Rattle.board.proofs.domains.shared_grant.Reads as shared-grant-reads
-use Rattle.board.proofs.domains.wrong_active.Reads as wrong-active-reads
-use Rattle.board.proofs.domains.wrong_grant.Reads as wrong-grant-reads
 
 wrong-grant-requires : tie.Need-wrong-grant-requires
 wrong-grant-requires c κs = search needs

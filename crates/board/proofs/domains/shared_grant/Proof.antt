@@ -7,9 +7,6 @@ use Rattle.lists.proofs.Sought.{sought-start, sought-hit, sought-miss, sought-e
 use Rattle.board.specs.Tests.{sharesWithAnother}
 use Rattle.board.proofs.domains.shared_grant.Statement.{statement}
 use Rattle.board.proofs.domains.shared_grant.Tie as tie
-use Rattle.board.proofs.domains.shared_grant.Reads as reads
-use Rattle.board.proofs.domains.shared_grant.Lts as lts
-use Rattle.board.proofs.domains.shares_with_another.Reads as shares-with-another-reads
 
 abbrev Inv-loop : tie.InvT-loop
 Inv-loop board d₀ d = (d ≤ board .domains) × (lowest (sharesWithAnother board) (board .domains) ≡ lowestFrom (sharesWithAnother board) d (board .domains))

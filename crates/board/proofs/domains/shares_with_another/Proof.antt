@@ -3,18 +3,14 @@ use Prim.Native.Nat.{ℕ, _-_, _≤_}
 use native.Mathlib.Omega.{arith}
 use mathlib.Core.Bool.{Bool, true, false, not, _&&_}
 use mathlib.Core.Logic.{⊎-elim}
-use mathlib.Core.Path.{_≡_, sym, ap, _∙_}
-use borrow.Author.Needs.{needs}
-use borrow.Author.Tests.{eq-eqb, ne-eqb}
+use mathlib.Core.Path.{_≡_, sym, _∙_}
 use lib.Dec.{eqb}
-use lib.ListN.{length, getD}
-use Rattle.board.specs.declared.Board.{Board}
+use borrow.Author.Tests.{eq-eqb, ne-eqb}
 use Rattle.lists.proofs.Sought.{anyAhead, any-start, any-hit, any-miss, any-end}
+use Rattle.board.specs.declared.Board.{Board}
 use Rattle.board.specs.Tests.{grant, shares, sharesWithAnother}
 use Rattle.board.proofs.domains.shares_with_another.Statement.{statement}
 use Rattle.board.proofs.domains.shares_with_another.Tie as tie
-use Rattle.board.proofs.domains.shares_with_another.Reads as reads
-use Rattle.board.proofs.domains.shares_with_another.Lts as lts
 
 abbrev sharing : Board → ℕ → ℕ → Bool
 sharing b d i = not (eqb i d) && shares (grant b d) (grant b i)

@@ -1,20 +1,16 @@
 -- `board::domains::wrong_active` meets its contract. The invariant: the domain lowestFrom is lowestFrom from `d` on.
 use Prim.Native.Nat.{ℕ, _-_, _≤_}
 use native.Mathlib.Omega.{arith}
-use mathlib.Core.Bool.{Bool, true, false, not}
+use mathlib.Core.Bool.{Bool, true, false}
 use mathlib.Core.Logic.{⊎-elim}
-use mathlib.Core.Path.{_≡_, sym, ap, _∙_}
-use borrow.Author.Needs.{needs}
+use mathlib.Core.Path.{_≡_, sym, _∙_}
 use borrow.Author.Tests.{eq-eqb, ne-eqb}
-use lib.ListN.{length, getD}
-use Rattle.board.specs.declared.Board.{Board}
 use Rattle.lists.specs.Range.{lowest, lowestFrom}
 use Rattle.lists.proofs.Sought.{sought-start, sought-hit, sought-miss, sought-end}
+use Rattle.board.specs.declared.Board.{Board}
 use Rattle.board.specs.Tests.{grant, activeSet, emptyOrOutside}
 use Rattle.board.proofs.domains.wrong_active.Statement.{statement}
 use Rattle.board.proofs.domains.wrong_active.Tie as tie
-use Rattle.board.proofs.domains.wrong_active.Reads as reads
-use Rattle.board.proofs.domains.wrong_active.Lts as lts
 
 abbrev wrong : Board → ℕ → Bool
 wrong b i = emptyOrOutside (grant b i) (activeSet b i)

@@ -2,21 +2,15 @@
 use Prim.Native.Nat.{ℕ, _-_, _≤_}
 use native.Mathlib.Omega.{arith}
 use mathlib.Core.Bool.{Bool, true, false, not}
-use mathlib.Core.Logic.{⊎-elim}
 use mathlib.Core.Path.{_≡_, sym, ap, _∙_}
 use borrow.Author.Needs.{needs}
-use borrow.Author.Tests.{eq-eqb, ne-eqb}
-use lib.ListN.{length, getD}
-use Rattle.board.specs.declared.Board.{Board}
 use Rattle.lists.specs.Range.{lowest, lowestFrom}
 use Rattle.lists.proofs.Sought.{sought-start, sought-hit, sought-miss, sought-end}
 use Rattle.colours.specs.Sets.{isColourSet}
+use Rattle.board.specs.declared.Board.{Board}
 use Rattle.board.specs.Tests.{grant}
 use Rattle.board.proofs.domains.wrong_grant.Statement.{statement}
 use Rattle.board.proofs.domains.wrong_grant.Tie as tie
-use Rattle.board.proofs.domains.wrong_grant.Reads as reads
-use Rattle.board.proofs.domains.wrong_grant.Lts as lts
-use Rattle.colours.proofs.is_colour_set.Reads as is-colour-set-reads
 
 abbrev wrong : Board → ℕ → Bool
 wrong b i = not (isColourSet (b .colours) (grant b i))

@@ -1,16 +1,13 @@
 -- `frames::mapping::check_page` meets its contract: 10 is tested where 2 to 8 pass.
 use mathlib.Core.Path.{_≡_, sym, ap, _∙_}
 use borrow.Author.Tests.{lt-ltb, le-ltb}
+use borrow.Author.Needs.{needs}
 use Rattle.refusal.specs.Reply.{Answers, unless}
 use Rattle.board.specs.Paper.{paperChecked}
 use Rattle.board.specs.Tests.{callReply}
 use Rattle.frames.proofs.Called.{ten-refused, ten-left}
-use borrow.Author.Needs.{needs}
 use Rattle.frames.proofs.mapping.check_page.Statement.{statement}
 use Rattle.frames.proofs.mapping.check_page.Tie as tie
-use Rattle.frames.proofs.mapping.check_page.Reads as reads
-use Rattle.frames.proofs.mapping.check_page.Lts as lts
-use Rattle.board.proofs.check_call.Reads as check-call-reads
 
 passes-8 :
     (c : tie.After-enum-told)

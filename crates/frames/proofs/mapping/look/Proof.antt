@@ -1,41 +1,48 @@
 -- `frames::mapping::look` meets its contract: the outcomes of `Pages` for the frame that the loop finds.
-use Prim.Native.Nat.{ℕ, _≤_, _<_}
+use Prim.Native.Nat.{ℕ, _<_, _≤_}
 use native.Mathlib.Omega.{arith}
 use mathlib.Core.List.{List}
 use mathlib.Core.Path.{_≡_, sym, ap, _∙_}
 use lib.ListN.{length}
+use borrow.Author.Needs.{needs}
 use Rattle.lists.specs.Range.{lowestFrom}
-use Rattle.refusal.specs.Reply.{Answers, unless}
-use Rattle.lists.proofs.Found.{sought-le}
+use Rattle.refusal.specs.Reply.{Answers}
 use Rattle.board.specs.Paper.{paperChecked}
 use Rattle.calls.specs.Table.{wordOf}
-use Rattle.calls.specs.Calls.{Outcome, look}
+use Rattle.calls.specs.Calls.{Mapped, look}
 use Rattle.frames.specs.Checks.{pageReply}
 use Rattle.frames.specs.Scan.{wordAt}
-use Rattle.frames.proofs.Called.{page-refused, page-accepted}
+use Rattle.frames.proofs.Called.{told-by, page-refused, page-accepted}
 use Rattle.frames.proofs.Pages.{look-mapped, look-unmapped}
-use borrow.Author.Needs.{needs}
 use Rattle.frames.proofs.mapping.look.Statement.{statement}
 use Rattle.frames.proofs.mapping.look.Tie as tie
-use Rattle.frames.proofs.mapping.look.Reads as reads
-use Rattle.frames.proofs.mapping.look.Lts as lts
-use Rattle.frames.proofs.mapping.check_page.Reads as check-page-reads
-use Rattle.frames.proofs.scan.next_word.Reads as next-word-reads
-use Rattle.frames.proofs.scan.word_for.Reads as word-for-reads
 
-ok :
-    (c : tie.After-enum-told)
-    → pageReply (c .before .before .before .before .args .board) (length (c .before .before .before .before .args .table .now)) (c .before .before .before .before .args .domain) (c .before .before .before .before .args .page)
-    ≡ Answers tt
-ok c = sym (c .before .before .check-page .ensures) ∙ ap paperChecked (c .enum-told .given .1)
+-- earlier places of the code, and the entry
+abbrev entry : tie.After-enum-told → tie.Start
+entry c = c .before .before .before .before
 
--- what the loop finds
-found-is :
-    (c : tie.After-next-word)
-    → c .next-word .result
-    ≡ lowestFrom (wordAt (c .before .before .before .before .before .before .args .table .now) (wordOf (c .before .before .before .before .before .before .args .domain) (c .before .before .before .before .before .before .args .page))) 0 (length (c .before .before .before .before .before .before .args .table .now))
-found-is c =
-    let t : List ℕ = c .before .before .before .before .before .before .args .table .now in
+abbrev told : tie.After-next-word → tie.After-enum-told
+told c = c .before .before
+
+abbrev table : tie.Start → List ℕ
+table s = s .args .table .now
+
+abbrev wanted : tie.Start → ℕ
+wanted s = wordOf (s .args .domain) (s .args .page)
+
+abbrev Passes-10 : tie.Start → Type 0
+Passes-10 s = pageReply (s .args .board) (length (table s)) (s .args .domain) (s .args .page) ≡ Answers tt
+
+passes-10 : (c : tie.After-enum-told) → Passes-10 (entry c)
+passes-10 c = sym (c .before .before .check-page .ensures) ∙ ap paperChecked (c .enum-told .given .1)
+
+-- the lowest frame with the word
+abbrev held : tie.Start → ℕ
+held s = lowestFrom (wordAt (table s) (wanted s)) 0 (length (table s))
+
+held-is : (c : tie.After-next-word) → c .next-word .result ≡ held (entry (told c))
+held-is c =
+    let t : List ℕ = table (entry (told c)) in
     c .next-word .ensures ∙ ap (λ (w : ℕ). lowestFrom (wordAt t w) 0 (length t)) (c .before .word-for .ensures)
 
 check-page-requires : tie.Need-check-page-requires
@@ -48,30 +55,33 @@ enum-told : tie.Need-enum-told
 enum-told c = search needs
 
 word-for-requires : tie.Need-word-for-requires
-word-for-requires c κs = let g = page-accepted _ _ _ _ (ok c) in (omega arith, g .1)
+word-for-requires c κs = let g = page-accepted _ _ _ _ (passes-10 c) in (omega arith, g .1)
 
 next-word-requires : tie.Need-next-word-requires
 next-word-requires c κs = search needs
 
 cast-t14 : tie.Need-cast-t14
-cast-t14 c = omega (arith, page-accepted _ _ _ _ (ok (c .before .before .before)))
+cast-t14 c = omega (arith, page-accepted _ _ _ _ (passes-10 (told (c .before))))
 
 returns : tie.Need-returns
 unfolding look
 returns c =
     let a = c .before .before .before .before .before .args in
     let first = sym (c .before .before .before .check-page .ensures) ∙ ap paperChecked (c .before .refusal .given .1) in
-    sym (ap (λ (o : Outcome). o .reply) (page-refused _ (a .domain) (a .page) _ _ _ _ first))
+    told-by _ _ (page-refused _ (a .domain) (a .page) _ _ _ _ first) .0
 
 returns-2 : tie.Need-returns-2
 returns-2 c =
-    let is = found-is (c .before) in
-    rw is (sym (ap (λ (o : Outcome). o .reply) (look-mapped _ _ _ _ (ok (c .before .before .before)) (rw is at (c .if1 .taken)))))
+    let s = entry (told (c .before)) in
+    let is = held-is (c .before) in
+    let some : held s < length (table s) = omega (arith, is) in
+    ap (λ (f : ℕ). Answers (Mapped f)) is ∙ told-by _ _ (look-mapped _ _ _ _ (passes-10 (told (c .before))) some) .0
 
 returns-3 : tie.Need-returns-3
 returns-3 c =
-    let is = found-is (c .before) in
-    sym (ap (λ (o : Outcome). o .reply) (look-unmapped _ _ _ _ (ok (c .before .before .before)) (rw is at (c .if1 .left))))
+    let s = entry (told (c .before)) in
+    let none : length (table s) ≤ held s = omega (arith, held-is (c .before)) in
+    told-by _ _ (look-unmapped _ _ _ _ (passes-10 (told (c .before))) none) .0
 
 pub look-spec : {M : Type 1} → statement M
 look-spec =

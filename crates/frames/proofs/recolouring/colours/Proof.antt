@@ -2,19 +2,15 @@
 use native.Mathlib.Omega.{arith}
 use mathlib.Core.Path.{_≡_, sym, ap, _∙_}
 use lib.ListN.{length}
+use borrow.Author.Needs.{needs}
 use Rattle.refusal.specs.Reply.{Answers, unless}
 use Rattle.board.specs.Paper.{paperChecked}
 use Rattle.board.specs.Tests.{callReply}
 use Rattle.board.proofs.Accepted.{accepted}
 use Rattle.calls.specs.Calls.{Outcome, settle, colours}
 use Rattle.frames.proofs.Called.{call-refused, call-passed}
-use borrow.Author.Needs.{needs}
 use Rattle.frames.proofs.recolouring.colours.Statement.{statement}
 use Rattle.frames.proofs.recolouring.colours.Tie as tie
-use Rattle.frames.proofs.recolouring.colours.Reads as reads
-use Rattle.frames.proofs.recolouring.colours.Lts as lts
-use Rattle.board.proofs.check_call.Reads as check-call-reads
-use Rattle.frames.proofs.recolouring.active_set.Reads as active-set-reads
 
 ok :
     (c : tie.After-enum-told)

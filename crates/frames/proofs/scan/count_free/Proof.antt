@@ -4,18 +4,14 @@ use native.Mathlib.Omega.{arith}
 use mathlib.Core.Bool.{true, false}
 use mathlib.Core.List.{List}
 use mathlib.Core.Logic.{⊎-elim}
-use mathlib.Core.Path.{_≡_, refl, sym, ap, _∙_}
+use mathlib.Core.Path.{_≡_, sym, ap, _∙_}
+use lib.ListN.{length}
 use borrow.Author.Needs.{needs}
-use borrow.Author.Tests.{eq-eqb, ne-eqb, le-leb, lt-leb}
-use lib.ListN.{length, getD}
 use Rattle.lists.specs.Range.{upto, keep}
 use Rattle.lists.proofs.Kept.{ahead, ahead-start, ahead-take, ahead-skip, ahead-end}
 use Rattle.frames.specs.Scan.{freeIn}
 use Rattle.frames.proofs.scan.count_free.Statement.{statement}
 use Rattle.frames.proofs.scan.count_free.Tie as tie
-use Rattle.frames.proofs.scan.count_free.Reads as reads
-use Rattle.frames.proofs.scan.count_free.Lts as lts
-use Rattle.frames.proofs.scan.is_free_in.Reads as is-free-in-reads
 
 abbrev Inv-loop : tie.InvT-loop
 Inv-loop table colours set n₀ f₀ n f = (f ≤ length table) × (n ≤ f) × (length (keep (freeIn table colours set) (upto (length table))) ≡ n + length (ahead (freeIn table colours set) f (length table)))

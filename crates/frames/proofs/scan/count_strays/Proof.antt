@@ -4,20 +4,14 @@ use native.Mathlib.Omega.{arith}
 use mathlib.Core.Bool.{true, false}
 use mathlib.Core.List.{List}
 use mathlib.Core.Logic.{⊎-elim}
-use mathlib.Core.Path.{_≡_, refl, sym, ap, _∙_}
+use mathlib.Core.Path.{_≡_, sym, ap, _∙_}
+use lib.ListN.{length}
 use borrow.Author.Needs.{needs}
-use borrow.Author.Tests.{eq-eqb, ne-eqb, le-leb, lt-leb}
-use lib.ListN.{length, getD}
 use Rattle.lists.specs.Range.{upto, keep}
 use Rattle.lists.proofs.Kept.{ahead, ahead-start, ahead-take, ahead-skip, ahead-end}
-use Rattle.calls.specs.Table.{wordOf}
 use Rattle.frames.specs.Scan.{strayOf}
 use Rattle.frames.proofs.scan.count_strays.Statement.{statement}
 use Rattle.frames.proofs.scan.count_strays.Tie as tie
-use Rattle.frames.proofs.scan.count_strays.Reads as reads
-use Rattle.frames.proofs.scan.count_strays.Lts as lts
-use Rattle.frames.proofs.scan.is_stray.Reads as is-stray-reads
-use Rattle.frames.proofs.scan.word_for.Reads as word-for-reads
 
 abbrev Inv-loop : tie.InvT-loop
 Inv-loop table domain colours set first last n₀ f₀ n f = (f ≤ length table) × (n ≤ f) × (length (keep (strayOf table domain colours set) (upto (length table))) ≡ n + length (ahead (strayOf table domain colours set) f (length table)))

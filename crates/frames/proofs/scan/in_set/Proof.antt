@@ -1,13 +1,10 @@
 -- `frames::scan::in_set` meets its contract: the mask gives the colour.
 use native.Mathlib.Omega.{arith}
-use mathlib.Core.Path.{refl}
 use Rattle.colours.specs.Sets.{has}
 use Rattle.colours.proofs.Ranges.{count-range}
 use Rattle.frames.proofs.Masks.{colour-mask, colour-small}
 use Rattle.frames.proofs.scan.in_set.Statement.{statement}
 use Rattle.frames.proofs.scan.in_set.Tie as tie
-use Rattle.frames.proofs.scan.in_set.Reads as reads
-use Rattle.frames.proofs.scan.in_set.Lts as lts
 
 sub-result : tie.Need-sub-result
 sub-result c = omega (arith, count-range _ (c .pre))

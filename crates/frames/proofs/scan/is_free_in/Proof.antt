@@ -1,12 +1,8 @@
 -- `frames::scan::is_free_in` meets its contract, test by test.
-use mathlib.Core.Path.{_≡_, sym, _∙_}
 use borrow.Author.Tests.{eq-eqb, ne-eqb}
 use borrow.Author.Needs.{needs}
 use Rattle.frames.proofs.scan.is_free_in.Statement.{statement}
 use Rattle.frames.proofs.scan.is_free_in.Tie as tie
-use Rattle.frames.proofs.scan.is_free_in.Reads as reads
-use Rattle.frames.proofs.scan.is_free_in.Lts as lts
-use Rattle.frames.proofs.scan.in_set.Reads as in-set-reads
 
 in-set-requires : tie.Need-in-set-requires
 in-set-requires c κs = search needs

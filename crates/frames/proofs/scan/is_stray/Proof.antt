@@ -1,15 +1,12 @@
 -- `frames::scan::is_stray` meets its contract, test by test.
 use mathlib.Core.Logic.{⊎-elim}
 use mathlib.Core.Path.{_≡_, sym, ap, _∙_}
+use mathlib.Core.Bool.{not, _&&_}
+use lib.Dec.{leb}
 use borrow.Author.Tests.{le-leb, lt-leb}
 use borrow.Author.Needs.{needs}
-use lib.Dec.{leb}
-use mathlib.Core.Bool.{not, _&&_}
 use Rattle.frames.proofs.scan.is_stray.Statement.{statement}
 use Rattle.frames.proofs.scan.is_stray.Tie as tie
-use Rattle.frames.proofs.scan.is_stray.Reads as reads
-use Rattle.frames.proofs.scan.is_stray.Lts as lts
-use Rattle.frames.proofs.scan.in_set.Reads as in-set-reads
 
 held : (c : tie.Joined1) → c .if1 .if2 ≡ (leb (c .before .args .first) (c .before .args .word) && leb (c .before .args .word) (c .before .args .last))
 held c =

@@ -1,23 +1,16 @@
 -- `frames::scan::next_stray` meets its contract. The invariant: the frame lowestFrom is lowestFrom from `f` on.
-use Prim.Native.Nat.{ℕ, _+_, _-_, _≤_, _<_}
+use Prim.Native.Nat.{ℕ, _-_, _≤_}
 use native.Mathlib.Omega.{arith}
 use mathlib.Core.Bool.{true, false}
 use mathlib.Core.List.{List}
-use mathlib.Core.Logic.{⊎-elim}
-use mathlib.Core.Path.{_≡_, refl, sym, ap, _∙_}
+use mathlib.Core.Path.{_≡_, refl, sym, _∙_}
+use lib.ListN.{length}
 use borrow.Author.Needs.{needs}
-use borrow.Author.Tests.{eq-eqb, ne-eqb, le-leb, lt-leb}
-use lib.ListN.{length, getD}
 use Rattle.lists.specs.Range.{lowestFrom}
-use Rattle.lists.proofs.Sought.{sought-start, sought-hit, sought-miss, sought-end}
-use Rattle.calls.specs.Table.{wordOf}
+use Rattle.lists.proofs.Sought.{sought-hit, sought-miss, sought-end}
 use Rattle.frames.specs.Scan.{strayOf}
 use Rattle.frames.proofs.scan.next_stray.Statement.{statement}
 use Rattle.frames.proofs.scan.next_stray.Tie as tie
-use Rattle.frames.proofs.scan.next_stray.Reads as reads
-use Rattle.frames.proofs.scan.next_stray.Lts as lts
-use Rattle.frames.proofs.scan.is_stray.Reads as is-stray-reads
-use Rattle.frames.proofs.scan.word_for.Reads as word-for-reads
 
 abbrev Inv-loop : tie.InvT-loop
 Inv-loop table start domain colours set first last f₀ f = (f ≤ length table) × (lowestFrom (strayOf table domain colours set) start (length table) ≡ lowestFrom (strayOf table domain colours set) f (length table))

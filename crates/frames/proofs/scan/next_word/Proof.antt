@@ -1,20 +1,16 @@
 -- `frames::scan::next_word` meets its contract. The invariant: the frame lowestFrom is lowestFrom from `f` on.
-use Prim.Native.Nat.{ℕ, _+_, _-_, _≤_, _<_}
+use Prim.Native.Nat.{ℕ, _-_, _≤_}
 use native.Mathlib.Omega.{arith}
 use mathlib.Core.Bool.{true, false}
 use mathlib.Core.List.{List}
-use mathlib.Core.Logic.{⊎-elim}
-use mathlib.Core.Path.{_≡_, refl, sym, ap, _∙_}
-use borrow.Author.Needs.{needs}
-use borrow.Author.Tests.{eq-eqb, ne-eqb, le-leb, lt-leb}
-use lib.ListN.{length, getD}
+use mathlib.Core.Path.{_≡_, refl, sym, _∙_}
+use lib.ListN.{length}
+use borrow.Author.Tests.{eq-eqb, ne-eqb}
 use Rattle.lists.specs.Range.{lowestFrom}
-use Rattle.lists.proofs.Sought.{sought-start, sought-hit, sought-miss, sought-end}
+use Rattle.lists.proofs.Sought.{sought-hit, sought-miss, sought-end}
 use Rattle.frames.specs.Scan.{wordAt}
 use Rattle.frames.proofs.scan.next_word.Statement.{statement}
 use Rattle.frames.proofs.scan.next_word.Tie as tie
-use Rattle.frames.proofs.scan.next_word.Reads as reads
-use Rattle.frames.proofs.scan.next_word.Lts as lts
 
 abbrev Inv-loop : tie.InvT-loop
 Inv-loop table start word f₀ f = (f ≤ length table) × (lowestFrom (wordAt table word) start (length table) ≡ lowestFrom (wordAt table word) f (length table))

@@ -1,21 +1,17 @@
 -- `frames::scan::word_or_free` meets its contract. The invariant: the frame lowestFrom is lowestFrom from `f` on.
-use Prim.Native.Nat.{ℕ, _+_, _-_, _≤_, _<_}
+use Prim.Native.Nat.{ℕ, _-_, _≤_}
 use native.Mathlib.Omega.{arith}
 use mathlib.Core.Bool.{true, false}
 use mathlib.Core.List.{List}
-use mathlib.Core.Logic.{⊎-elim}
-use mathlib.Core.Path.{_≡_, refl, sym, ap, _∙_}
+use mathlib.Core.Path.{_≡_, sym, _∙_}
+use lib.ListN.{length}
 use borrow.Author.Needs.{needs}
-use borrow.Author.Tests.{eq-eqb, ne-eqb, le-leb, lt-leb}
-use lib.ListN.{length, getD}
+use borrow.Author.Tests.{eq-eqb, ne-eqb}
 use Rattle.lists.specs.Range.{lowest, lowestFrom}
 use Rattle.lists.proofs.Sought.{sought-start, sought-hit, sought-miss, sought-end}
 use Rattle.frames.specs.Scan.{stop}
 use Rattle.frames.proofs.scan.word_or_free.Statement.{statement}
 use Rattle.frames.proofs.scan.word_or_free.Tie as tie
-use Rattle.frames.proofs.scan.word_or_free.Reads as reads
-use Rattle.frames.proofs.scan.word_or_free.Lts as lts
-use Rattle.frames.proofs.scan.is_free_in.Reads as is-free-in-reads
 
 abbrev Inv-loop : tie.InvT-loop
 Inv-loop table word colours set f₀ f = (f ≤ length table) × (lowest (stop table word colours set) (length table) ≡ lowestFrom (stop table word colours set) f (length table))
