@@ -6,6 +6,7 @@ use native.Mathlib.Omega.{arith}
 use mathlib.Core.Bool.{Bool, true, false, not, false≢true}
 use mathlib.Core.List.{List}
 use mathlib.Core.Path.{_≡_, refl, sym, ap, _∙_}
+use lib.Count.{ones}
 use lib.ListN.{length, getD, take, drop, length-drop}
 use lib.Seq.{length-take-le, getD-take, getD-drop}
 use borrow.Author.Tests.{eqb-true, eq-eqb, not-true}
@@ -13,7 +14,7 @@ use Rattle.lists.specs.Range.{lowestFrom}
 use Rattle.lists.proofs.Split.{below-or-not}
 use Rattle.lists.proofs.Sought.{sought-start}
 use Rattle.lists.proofs.Found.{found, missed, sought-le}
-use Rattle.plan.specs.Rows.{taskWord, vcpuOf, taskRows}
+use Rattle.plan.specs.Rows.{taskWord, vcpuOf, colourSet, cost, colours-shared, taskRows}
 use Rattle.plan.specs.Part.{isRowOf, partStart, partEnd, partOf}
 
 -- a search goes no lower than it starts
@@ -65,6 +66,17 @@ module _ (tasks : List ℕ) (v : ℕ) where
       getD-take n (drop a tasks) (20 * i + k) 0 inside
       ∙ getD-drop a tasks (20 * i + k) 0
       ∙ ap (λ (m : ℕ). getD tasks m 0) same
+
+  -- so a row of the part has the cost of its row in the list, and two of them share as many colours
+  pub part-cost : (i : ℕ) → i < partEnd tasks v - partStart tasks v → ones (colourSet tasks (partStart tasks v + i)) ≤ 16
+      → cost (partOf tasks v) i ≡ cost tasks (partStart tasks v + i)
+  unfolding cost
+  part-cost i l h = rw (part-word i 3 l (omega arith)) (part-word i (3 + ones (colourSet tasks (partStart tasks v + i))) l (omega arith))
+
+  pub part-shared : (i j : ℕ) → i < partEnd tasks v - partStart tasks v → j < partEnd tasks v - partStart tasks v
+      → colours-shared (partOf tasks v) i j ≡ colours-shared tasks (partStart tasks v + i) (partStart tasks v + j)
+  unfolding colours-shared
+  part-shared i j l h = rw (part-word i 3 l (omega arith), part-word j 3 h (omega arith))
 
 -- no row names a lower VCPU than the row before
 abbrev pub Ascending : List ℕ → Type 0
