@@ -3,11 +3,11 @@
 use Prim.Native.Nat.{ℕ, zero, suc, _+_, _-_, _*_, _<_, _≤_}
 use native.Mathlib.Nat.{le-refl}
 use native.Mathlib.Omega.{arith}
-use mathlib.Core.Bool.{Bool, true, false, not, false≢true}
+use mathlib.Core.Bool.{Bool, true, not, false≢true}
 use mathlib.Core.List.{List}
 use mathlib.Core.Path.{_≡_, refl, sym, ap, _∙_}
 use lib.Count.{ones}
-use lib.ListN.{length, getD, take, drop, length-drop}
+use lib.ListN.{length, getD, drop, length-drop}
 use lib.Seq.{length-take-le, getD-take, getD-drop}
 use borrow.Author.Tests.{eqb-true, eq-eqb, not-true}
 use Rattle.lists.specs.Range.{lowestFrom}
@@ -108,19 +108,19 @@ module _ (tasks : List ℕ) (ascending : Ascending tasks) where
       let here : p j ≡ true = eq-eqb v v (refl) in
       let at : s ≡ lowestFrom p 0 n = start-sought tasks v in
       let low : s ≤ j =
-          below-or-not j s
-          (λ l.
-          below-or-not s n
-          (λ g. absurd (false≢true (sym (found p 0 n (rw at at g) .before j (omega arith) (rw at at l)) ∙ here)))
-          (λ g. absurd (false≢true (sym (missed p 0 n (rw at at g) j (omega arith) h) ∙ here))))
-          (λ l. l) in
+      below-or-not j s
+      (λ l.
+      below-or-not s n
+      (λ g. absurd (false≢true (sym (found p 0 n (rw at at g) .before j (omega arith) (rw at at l)) ∙ here)))
+      (λ g. absurd (false≢true (sym (missed p 0 n (rw at at g) j (omega arith) h) ∙ here))))
+      (λ l. l) in
       let first : p s ≡ true = rw at (found p 0 n (omega arith) .passes) in
       let high : j < e =
-          below-or-not j e (λ l. l)
-          (λ l.
-          let next = found q s n (omega arith) in
-          let up = never-lower s e (next .low) (next .high) in
-          let on = never-lower e j l h in
-          let same : vcpuOf tasks e ≡ v = omega (arith, up, on, eqb-true (vcpuOf tasks s) v first) in
-          absurd (false≢true (sym (not-true (p e) (next .passes)) ∙ eq-eqb (vcpuOf tasks e) v same))) in
+      below-or-not j e (λ l. l)
+      (λ l.
+      let next = found q s n (omega arith) in
+      let up = never-lower s e (next .low) (next .high) in
+      let on = never-lower e j l h in
+      let same : vcpuOf tasks e ≡ v = omega (arith, up, on, eqb-true (vcpuOf tasks s) v first) in
+      absurd (false≢true (sym (not-true (p e) (next .passes)) ∙ eq-eqb (vcpuOf tasks e) v same))) in
       (low, high)
