@@ -2,3 +2,5 @@
 pub mod Parts
 pub mod Joined
 pub mod Faults
+pub mod Passed
+pub mod Accepted

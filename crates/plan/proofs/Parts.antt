@@ -3,17 +3,18 @@
 use Prim.Native.Nat.{ℕ, zero, suc, _+_, _-_, _*_, _<_, _≤_}
 use native.Mathlib.Nat.{le-refl}
 use native.Mathlib.Omega.{arith}
-use mathlib.Core.Bool.{Bool, true, false, not, false≢true}
+use mathlib.Core.Bool.{Bool, true, not, false≢true}
 use mathlib.Core.List.{List}
 use mathlib.Core.Path.{_≡_, refl, sym, ap, _∙_}
-use lib.ListN.{length, getD, take, drop, length-drop}
+use lib.Count.{ones}
+use lib.ListN.{length, getD, drop, length-drop}
 use lib.Seq.{length-take-le, getD-take, getD-drop}
 use borrow.Author.Tests.{eqb-true, eq-eqb, not-true}
 use Rattle.lists.specs.Range.{lowestFrom}
 use Rattle.lists.proofs.Split.{below-or-not}
 use Rattle.lists.proofs.Sought.{sought-start}
 use Rattle.lists.proofs.Found.{found, missed, sought-le}
-use Rattle.plan.specs.Rows.{taskWord, vcpuOf, taskRows}
+use Rattle.plan.specs.Rows.{taskWord, vcpuOf, colourSet, cost, colours-shared, taskRows}
 use Rattle.plan.specs.Part.{isRowOf, partStart, partEnd, partOf}
 
 -- a search goes no lower than it starts
@@ -66,6 +67,17 @@ module _ (tasks : List ℕ) (v : ℕ) where
       ∙ getD-drop a tasks (20 * i + k) 0
       ∙ ap (λ (m : ℕ). getD tasks m 0) same
 
+  -- so a row of the part has the cost of its row in the list, and two of them share as many colours
+  pub part-cost : (i : ℕ) → i < partEnd tasks v - partStart tasks v → ones (colourSet tasks (partStart tasks v + i)) ≤ 16
+      → cost (partOf tasks v) i ≡ cost tasks (partStart tasks v + i)
+  unfolding cost
+  part-cost i l h = rw (part-word i 3 l (omega arith)) (part-word i (3 + ones (colourSet tasks (partStart tasks v + i))) l (omega arith))
+
+  pub part-shared : (i j : ℕ) → i < partEnd tasks v - partStart tasks v → j < partEnd tasks v - partStart tasks v
+      → colours-shared (partOf tasks v) i j ≡ colours-shared tasks (partStart tasks v + i) (partStart tasks v + j)
+  unfolding colours-shared
+  part-shared i j l h = rw (part-word i 3 l (omega arith), part-word j 3 h (omega arith))
+
 -- no row names a lower VCPU than the row before
 abbrev pub Ascending : List ℕ → Type 0
 Ascending tasks = (j : ℕ) → j + 1 < taskRows tasks → vcpuOf tasks j ≤ vcpuOf tasks (j + 1)
@@ -96,19 +108,19 @@ module _ (tasks : List ℕ) (ascending : Ascending tasks) where
       let here : p j ≡ true = eq-eqb v v (refl) in
       let at : s ≡ lowestFrom p 0 n = start-sought tasks v in
       let low : s ≤ j =
-          below-or-not j s
-          (λ l.
-          below-or-not s n
-          (λ g. absurd (false≢true (sym (found p 0 n (rw at at g) .before j (omega arith) (rw at at l)) ∙ here)))
-          (λ g. absurd (false≢true (sym (missed p 0 n (rw at at g) j (omega arith) h) ∙ here))))
-          (λ l. l) in
+      below-or-not j s
+      (λ l.
+      below-or-not s n
+      (λ g. absurd (false≢true (sym (found p 0 n (rw at at g) .before j (omega arith) (rw at at l)) ∙ here)))
+      (λ g. absurd (false≢true (sym (missed p 0 n (rw at at g) j (omega arith) h) ∙ here))))
+      (λ l. l) in
       let first : p s ≡ true = rw at (found p 0 n (omega arith) .passes) in
       let high : j < e =
-          below-or-not j e (λ l. l)
-          (λ l.
-          let next = found q s n (omega arith) in
-          let up = never-lower s e (next .low) (next .high) in
-          let on = never-lower e j l h in
-          let same : vcpuOf tasks e ≡ v = omega (arith, up, on, eqb-true (vcpuOf tasks s) v first) in
-          absurd (false≢true (sym (not-true (p e) (next .passes)) ∙ eq-eqb (vcpuOf tasks e) v same))) in
+      below-or-not j e (λ l. l)
+      (λ l.
+      let next = found q s n (omega arith) in
+      let up = never-lower s e (next .low) (next .high) in
+      let on = never-lower e j l h in
+      let same : vcpuOf tasks e ≡ v = omega (arith, up, on, eqb-true (vcpuOf tasks s) v first) in
+      absurd (false≢true (sym (not-true (p e) (next .passes)) ∙ eq-eqb (vcpuOf tasks e) v same))) in
       (low, high)

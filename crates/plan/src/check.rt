@@ -30,13 +30,7 @@ const MOST_VCPU_WORDS: usize = 64;
 const MOST_TASK_WORDS: usize = 640;
 
 // Refusals 15 to 20 of a plan with a list of times of so many words.
-pub fn check_plan(
-    board: Board,
-    reload: u32,
-    vcpus: &[u32],
-    tasks: &[u32],
-    room: usize,
-) -> Checked
+pub fn check_plan(board: Board, reload: u32, vcpus: &[u32], tasks: &[u32], room: usize) -> Checked
     ensures { λ r. ⌜ paperChecked r ≡ planReply board reload (now (vcpus .entry)) (now (tasks .entry)) room ⌝ }
 {
     let v = vcpus.len();
@@ -44,7 +38,11 @@ pub fn check_plan(
         return Checked::Refused(Refusal { number: 15, row: 0 });
     }
     let t = tasks.len();
-    if t == 0 || MOST_TASK_WORDS < t || t % TASK_WORDS != 0 || room < v / VCPU_WORDS + t / TASK_WORDS {
+    if t == 0
+        || MOST_TASK_WORDS < t
+        || t % TASK_WORDS != 0
+        || room < v / VCPU_WORDS + t / TASK_WORDS
+    {
         return Checked::Refused(Refusal { number: 16, row: 0 });
     }
     check_rows(board, vcpus, tasks)
@@ -57,20 +55,32 @@ fn check_rows(board: Board, vcpus: &[u32], tasks: &[u32]) -> Checked
     let vcpu_rows = (vcpus.len() / VCPU_WORDS) as u32;
     let vcpu = wrong_vcpu(board, vcpus, vcpu_rows);
     if vcpu < vcpu_rows {
-        return Checked::Refused(Refusal { number: 17, row: vcpu });
+        return Checked::Refused(Refusal {
+            number: 17,
+            row: vcpu,
+        });
     }
     let rows = (tasks.len() / TASK_WORDS) as u32;
     let task = wrong_task(board, vcpus, tasks, rows);
     if task < rows {
-        return Checked::Refused(Refusal { number: 18, row: task });
+        return Checked::Refused(Refusal {
+            number: 18,
+            row: task,
+        });
     }
     let lower = lower_vcpu(tasks, rows);
     if lower < rows {
-        return Checked::Refused(Refusal { number: 19, row: lower });
+        return Checked::Refused(Refusal {
+            number: 19,
+            row: lower,
+        });
     }
     let sharing = shared_colour(tasks, rows);
     if sharing < rows {
-        return Checked::Refused(Refusal { number: 20, row: sharing });
+        return Checked::Refused(Refusal {
+            number: 20,
+            row: sharing,
+        });
     }
     Checked::Accepted
 }

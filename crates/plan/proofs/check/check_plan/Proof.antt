@@ -12,9 +12,6 @@ use Rattle.plan.specs.Tests.{zeroOrAbove, planTests, planReply}
 use borrow.Author.Needs.{needs}
 use Rattle.plan.proofs.check.check_plan.Statement.{statement}
 use Rattle.plan.proofs.check.check_plan.Tie as tie
-use Rattle.plan.proofs.check.check_plan.Reads as reads
-use Rattle.plan.proofs.check.check_plan.Lts as lts
-use Rattle.plan.proofs.check.check_rows.Reads as check-rows-reads
 
 passes-15 :
     (c : tie.Else4)

@@ -4,12 +4,6 @@ use Rattle.plan.proofs.Faults.{row-reply}
 use borrow.Author.Needs.{needs}
 use Rattle.plan.proofs.check.check_rows.Statement.{statement}
 use Rattle.plan.proofs.check.check_rows.Tie as tie
-use Rattle.plan.proofs.check.check_rows.Reads as reads
-use Rattle.plan.proofs.check.check_rows.Lts as lts
-use Rattle.plan.proofs.check.lower_vcpu.Reads as lower-vcpu-reads
-use Rattle.plan.proofs.check.shared_colour.Reads as shared-colour-reads
-use Rattle.plan.proofs.check.wrong_task.Reads as wrong-task-reads
-use Rattle.plan.proofs.check.wrong_vcpu.Reads as wrong-vcpu-reads
 
 cast-vcpu-rows : tie.Need-cast-vcpu-rows
 cast-vcpu-rows c = search needs

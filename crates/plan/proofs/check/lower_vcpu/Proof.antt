@@ -8,9 +8,6 @@ use Rattle.lists.proofs.Sought.{sought-start, sought-hit, sought-miss, sought-e
 use Rattle.plan.specs.Tests.{descends}
 use Rattle.plan.proofs.check.lower_vcpu.Statement.{statement}
 use Rattle.plan.proofs.check.lower_vcpu.Tie as tie
-use Rattle.plan.proofs.check.lower_vcpu.Reads as reads
-use Rattle.plan.proofs.check.lower_vcpu.Lts as lts
-use Rattle.plan.proofs.fields.descends.Reads as descends-reads
 
 abbrev Inv-loop : tie.InvT-loop
 Inv-loop tasks rows j₀ j = (j ≤ rows) × (lowest (descends tasks) rows ≡ lowestFrom (descends tasks) j rows)

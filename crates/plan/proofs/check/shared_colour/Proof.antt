@@ -8,9 +8,6 @@ use Rattle.lists.proofs.Sought.{sought-start, sought-hit, sought-miss, sought-e
 use Rattle.plan.specs.Tests.{sharesColour}
 use Rattle.plan.proofs.check.shared_colour.Statement.{statement}
 use Rattle.plan.proofs.check.shared_colour.Tie as tie
-use Rattle.plan.proofs.check.shared_colour.Reads as reads
-use Rattle.plan.proofs.check.shared_colour.Lts as lts
-use Rattle.plan.proofs.fields.shares_colour.Reads as shares-colour-reads
 
 abbrev Inv-loop : tie.InvT-loop
 Inv-loop tasks rows j₀ j = (j ≤ rows) × (lowest (sharesColour tasks) rows ≡ lowestFrom (sharesColour tasks) j rows)

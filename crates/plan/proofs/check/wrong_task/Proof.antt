@@ -8,9 +8,6 @@ use Rattle.lists.proofs.Sought.{sought-start, sought-hit, sought-miss, sought-e
 use Rattle.plan.specs.Tests.{badTask}
 use Rattle.plan.proofs.check.wrong_task.Statement.{statement}
 use Rattle.plan.proofs.check.wrong_task.Tie as tie
-use Rattle.plan.proofs.check.wrong_task.Reads as reads
-use Rattle.plan.proofs.check.wrong_task.Lts as lts
-use Rattle.plan.proofs.fields.bad_task.Reads as bad-task-reads
 
 abbrev Inv-loop : tie.InvT-loop
 Inv-loop board vcpus tasks rows j₀ j = (j ≤ rows) × (lowest (badTask board vcpus tasks) rows ≡ lowestFrom (badTask board vcpus tasks) j rows)

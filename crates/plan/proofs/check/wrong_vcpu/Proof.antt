@@ -8,9 +8,6 @@ use Rattle.lists.proofs.Sought.{sought-start, sought-hit, sought-miss, sought-e
 use Rattle.plan.specs.Tests.{badVcpu}
 use Rattle.plan.proofs.check.wrong_vcpu.Statement.{statement}
 use Rattle.plan.proofs.check.wrong_vcpu.Tie as tie
-use Rattle.plan.proofs.check.wrong_vcpu.Reads as reads
-use Rattle.plan.proofs.check.wrong_vcpu.Lts as lts
-use Rattle.plan.proofs.fields.bad_vcpu.Reads as bad-vcpu-reads
 
 abbrev Inv-loop : tie.InvT-loop
 Inv-loop board vcpus rows i₀ i = (i ≤ rows) × (lowest (badVcpu board vcpus) rows ≡ lowestFrom (badVcpu board vcpus) i rows)

@@ -1,17 +1,11 @@
 -- `plan::fields::bad_cost` meets its contract, test by test.
-use mathlib.Core.Logic.{⊎-elim}
 use mathlib.Core.Path.{_≡_, sym, ap, _∙_}
 use Rattle.plan.specs.Rows.{costWith}
 use Rattle.plan.specs.Tests.{zeroOrAbove}
-use borrow.Author.Tests.{lt-ltb, le-ltb, eq-eqb, ne-eqb}
-use native.Mathlib.Omega.{arith}
+use borrow.Author.Tests.{lt-ltb, le-ltb}
 use borrow.Author.Needs.{needs}
 use Rattle.plan.proofs.fields.bad_cost.Statement.{statement}
 use Rattle.plan.proofs.fields.bad_cost.Tie as tie
-use Rattle.plan.proofs.fields.bad_cost.Reads as reads
-use Rattle.plan.proofs.fields.bad_cost.Lts as lts
-use Rattle.plan.proofs.fields.zero_or_above.Reads as zero-or-above-reads
-use Rattle.plan.proofs.rows.task_word.Reads as task-word-reads
 
 -- whether the cost is outside its range, as the definition asks
 outside :

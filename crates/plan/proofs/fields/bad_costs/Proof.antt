@@ -1,20 +1,12 @@
 -- `plan::fields::bad_costs` meets its contract. The invariant: whether a cost is at fault is asked from `k` on.
-use Prim.Native.Nat.{ℕ, _-_, _≤_}
+use Prim.Native.Nat.{_-_, _≤_}
 use native.Mathlib.Omega.{arith}
-use mathlib.Core.Bool.{Bool, true, false, not, _&&_}
-use mathlib.Core.List.{List}
-use mathlib.Core.Logic.{⊎-elim}
-use mathlib.Core.Path.{_≡_, refl, sym, ap, _∙_}
-use lib.Dec.{eqb}
-use borrow.Author.Tests.{eq-eqb, ne-eqb}
-use Rattle.lists.specs.Range.{from, any, lowest, lowestFrom}
+use mathlib.Core.Path.{_≡_, refl, sym, _∙_}
+use Rattle.lists.specs.Range.{from, any}
 use Rattle.lists.proofs.Sought.{anyAhead, any-hit, any-miss, any-end}
 use Rattle.plan.specs.Tests.{badCost}
 use Rattle.plan.proofs.fields.bad_costs.Statement.{statement}
 use Rattle.plan.proofs.fields.bad_costs.Tie as tie
-use Rattle.plan.proofs.fields.bad_costs.Reads as reads
-use Rattle.plan.proofs.fields.bad_costs.Lts as lts
-use Rattle.plan.proofs.fields.bad_cost.Reads as bad-cost-reads
 
 abbrev Inv-loop : tie.InvT-loop
 Inv-loop tasks row k₀ k = (1 ≤ k) × (k ≤ 17) × (any (badCost tasks row) (from 1 16) ≡ anyAhead (badCost tasks row) k 17)

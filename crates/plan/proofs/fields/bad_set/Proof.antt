@@ -1,15 +1,8 @@
 -- `plan::fields::bad_set` meets its contract, test by test.
-use mathlib.Core.Logic.{⊎-elim}
-use mathlib.Core.Path.{_≡_, sym, ap, _∙_}
-use borrow.Author.Tests.{lt-ltb, le-ltb, eq-eqb, ne-eqb}
-use native.Mathlib.Omega.{arith}
+use borrow.Author.Tests.{eq-eqb, ne-eqb}
 use borrow.Author.Needs.{needs}
 use Rattle.plan.proofs.fields.bad_set.Statement.{statement}
 use Rattle.plan.proofs.fields.bad_set.Tie as tie
-use Rattle.plan.proofs.fields.bad_set.Reads as reads
-use Rattle.plan.proofs.fields.bad_set.Lts as lts
-use Rattle.plan.proofs.fields.grant_of.Reads as grant-of-reads
-use Rattle.plan.proofs.rows.vcpu_word.Reads as vcpu-word-reads
 
 vcpu-word-requires : tie.Need-vcpu-word-requires
 vcpu-word-requires c κs = search needs

@@ -12,12 +12,6 @@ use borrow.Author.Tests.{lt-ltb, le-ltb}
 use borrow.Author.Needs.{needs}
 use Rattle.plan.proofs.fields.bad_task.Statement.{statement}
 use Rattle.plan.proofs.fields.bad_task.Tie as tie
-use Rattle.plan.proofs.fields.bad_task.Reads as reads
-use Rattle.plan.proofs.fields.bad_task.Lts as lts
-use Rattle.plan.proofs.fields.bad_costs.Reads as bad-costs-reads
-use Rattle.plan.proofs.fields.bad_set.Reads as bad-set-reads
-use Rattle.plan.proofs.fields.zero_or_above.Reads as zero-or-above-reads
-use Rattle.plan.proofs.rows.task_word.Reads as task-word-reads
 
 -- the test of a row in the words that were read
 by-words :

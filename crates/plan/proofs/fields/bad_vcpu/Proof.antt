@@ -1,14 +1,10 @@
 -- `plan::fields::bad_vcpu` meets its contract, test by test.
 use mathlib.Core.Logic.{⊎-elim}
-use mathlib.Core.Path.{_≡_, sym, ap, _∙_}
+use mathlib.Core.Path.{sym, _∙_}
 use borrow.Author.Tests.{lt-ltb, le-ltb, leb-true, leb-false}
 use borrow.Author.Needs.{needs}
 use Rattle.plan.proofs.fields.bad_vcpu.Statement.{statement}
 use Rattle.plan.proofs.fields.bad_vcpu.Tie as tie
-use Rattle.plan.proofs.fields.bad_vcpu.Reads as reads
-use Rattle.plan.proofs.fields.bad_vcpu.Lts as lts
-use Rattle.plan.proofs.fields.zero_or_above.Reads as zero-or-above-reads
-use Rattle.plan.proofs.rows.vcpu_word.Reads as vcpu-word-reads
 
 vcpu-word-requires : tie.Need-vcpu-word-requires
 vcpu-word-requires c κs = search needs

@@ -1,14 +1,8 @@
 -- `plan::fields::descends` meets its contract, test by test.
-use mathlib.Core.Logic.{⊎-elim}
-use mathlib.Core.Path.{_≡_, sym, ap, _∙_}
-use borrow.Author.Tests.{lt-ltb, le-ltb, eq-eqb, ne-eqb}
-use native.Mathlib.Omega.{arith}
+use borrow.Author.Tests.{lt-ltb, le-ltb}
 use borrow.Author.Needs.{needs}
 use Rattle.plan.proofs.fields.descends.Statement.{statement}
 use Rattle.plan.proofs.fields.descends.Tie as tie
-use Rattle.plan.proofs.fields.descends.Reads as reads
-use Rattle.plan.proofs.fields.descends.Lts as lts
-use Rattle.plan.proofs.rows.task_word.Reads as task-word-reads
 
 task-word-requires : tie.Need-task-word-requires
 task-word-requires c κs = search needs

@@ -1,14 +1,10 @@
 -- `plan::fields::grant_of` meets its contract: a list reads as 0 past its end.
-use mathlib.Core.Logic.{⊎-elim}
-use mathlib.Core.Path.{_≡_, sym, ap, _∙_}
-use borrow.Author.Tests.{lt-ltb, le-ltb, eq-eqb, ne-eqb}
+use mathlib.Core.Path.{_≡_, sym}
 use lib.ListN.{length, List·getD-eq-default}
 use native.Mathlib.Omega.{arith}
 use borrow.Author.Needs.{needs}
 use Rattle.plan.proofs.fields.grant_of.Statement.{statement}
 use Rattle.plan.proofs.fields.grant_of.Tie as tie
-use Rattle.plan.proofs.fields.grant_of.Reads as reads
-use Rattle.plan.proofs.fields.grant_of.Lts as lts
 
 mul-result : tie.Need-mul-result
 mul-result c = search needs

@@ -4,10 +4,9 @@ use native.Mathlib.Omega.{arith}
 use mathlib.Core.Bool.{Bool, true, false, not, _&&_}
 use mathlib.Core.List.{List}
 use mathlib.Core.Logic.{⊎-elim}
-use mathlib.Core.Path.{_≡_, refl, sym, ap, _∙_}
+use mathlib.Core.Path.{_≡_, sym, _∙_}
 use lib.Dec.{eqb}
 use borrow.Author.Tests.{eq-eqb, ne-eqb}
-use Rattle.lists.specs.Range.{from, any, lowest, lowestFrom}
 use Rattle.lists.proofs.Sought.{anyAhead, any-start, any-hit, any-miss, any-end}
 use Rattle.board.specs.Tests.{shares}
 use Rattle.plan.specs.Rows.{vcpuOf, colourSet, taskRows}
@@ -15,9 +14,6 @@ use Rattle.plan.specs.Tests.{sharesColour}
 use borrow.Author.Needs.{needs}
 use Rattle.plan.proofs.fields.shares_colour.Statement.{statement}
 use Rattle.plan.proofs.fields.shares_colour.Tie as tie
-use Rattle.plan.proofs.fields.shares_colour.Reads as reads
-use Rattle.plan.proofs.fields.shares_colour.Lts as lts
-use Rattle.plan.proofs.rows.task_word.Reads as task-word-reads
 
 abbrev sharing : List ℕ → ℕ → ℕ → Bool
 sharing tasks j k = not (eqb (vcpuOf tasks k) (vcpuOf tasks j)) && shares (colourSet tasks j) (colourSet tasks k)
@@ -63,10 +59,10 @@ loop-again c =
     let a = c .before .before .before .before .before .before .before .args in
     let h = c .before .before .before .loop in
     let here : sharing (a .tasks .now) (a .row) (h .k) ≡ false =
-        ⊎-elim
-        (λ w. simp (← h .inv .1, ← h .inv .2, ← w .1 .ensures, ← c .before .task-word3 .ensures, ne-eqb _ _ (w .0 .taken), w .2 .left))
-        (λ w. simp (← h .inv .1, ← c .before .task-word3 .ensures, eq-eqb _ _ (w .left)))
-        (c .if1 .came) in
+    ⊎-elim
+    (λ w. simp (← h .inv .1, ← h .inv .2, ← w .1 .ensures, ← c .before .task-word3 .ensures, ne-eqb _ _ (w .0 .taken), w .2 .left))
+    (λ w. simp (← h .inv .1, ← c .before .task-word3 .ensures, eq-eqb _ _ (w .left)))
+    (c .if1 .came) in
     (omega arith, h .inv .1, h .inv .2, h .inv .3 ∙ any-miss (sharing (a .tasks .now) (a .row)) (h .k) (taskRows (a .tasks .now)) (omega arith) here)
 
 returns-2 : tie.Need-returns-2 Inv-loop μ-loop

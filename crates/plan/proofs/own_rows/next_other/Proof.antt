@@ -7,14 +7,12 @@ use mathlib.Core.Path.{_≡_, refl, sym, ap, _∙_}
 use lib.Dec.{eqb}
 use lib.ListN.{getD}
 use borrow.Author.Tests.{eq-eqb, ne-eqb}
-use Rattle.lists.specs.Range.{lowest, lowestFrom}
-use Rattle.lists.proofs.Sought.{sought-start, sought-hit, sought-miss, sought-end}
+use Rattle.lists.specs.Range.{lowestFrom}
+use Rattle.lists.proofs.Sought.{sought-hit, sought-miss, sought-end}
 use Rattle.plan.specs.Rows.{taskRows}
-use Rattle.plan.specs.Part.{isRowOf, partStart}
+use Rattle.plan.specs.Part.{isRowOf}
 use Rattle.plan.proofs.own_rows.next_other.Statement.{statement}
 use Rattle.plan.proofs.own_rows.next_other.Tie as tie
-use Rattle.plan.proofs.own_rows.next_other.Reads as reads
-use Rattle.plan.proofs.own_rows.next_other.Lts as lts
 
 at-first : (j : ℕ) → 20 * j + 0 ≡ 20 * j
 at-first j = omega arith

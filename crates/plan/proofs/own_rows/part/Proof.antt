@@ -2,7 +2,6 @@
 use Prim.Native.Nat.{ℕ, _≤_}
 use native.Mathlib.Omega.{arith}
 use mathlib.Core.Bool.{Bool, not}
-use mathlib.Core.Path.{_≡_}
 use Rattle.lists.proofs.Found.{sought-le}
 use Rattle.plan.specs.Rows.{taskRows}
 use Rattle.plan.specs.Part.{isRowOf, partEnd, partOf}
@@ -10,10 +9,6 @@ use Rattle.plan.proofs.Parts.{start-le, sought-ge}
 use borrow.Author.Needs.{needs}
 use Rattle.plan.proofs.own_rows.part.Statement.{statement}
 use Rattle.plan.proofs.own_rows.part.Tie as tie
-use Rattle.plan.proofs.own_rows.part.Reads as reads
-use Rattle.plan.proofs.own_rows.part.Lts as lts
-use Rattle.plan.proofs.own_rows.next_other.Reads as next-other-reads
-use Rattle.plan.proofs.own_rows.part_start.Reads as part-start-reads
 
 abbrev other : tie.After-next-other → ℕ → Bool
 other c j = not (isRowOf (c .before .before .before .args .tasks .now) (c .before .before .before .args .vcpu) j)

@@ -1,20 +1,18 @@
 -- `plan::own_rows::part_start` meets its contract. The invariant: the first row is looked for from `j` on.
 use Prim.Native.Nat.{ℕ, _+_, _-_, _*_, _≤_}
 use native.Mathlib.Omega.{arith}
-use mathlib.Core.Bool.{Bool, true, false, not}
+use mathlib.Core.Bool.{true, false}
 use mathlib.Core.List.{List}
 use mathlib.Core.Path.{_≡_, refl, sym, ap, _∙_}
 use lib.Dec.{eqb}
 use lib.ListN.{getD}
 use borrow.Author.Tests.{eq-eqb, ne-eqb}
-use Rattle.lists.specs.Range.{lowest, lowestFrom}
+use Rattle.lists.specs.Range.{lowestFrom}
 use Rattle.lists.proofs.Sought.{sought-start, sought-hit, sought-miss, sought-end}
 use Rattle.plan.specs.Rows.{taskRows}
 use Rattle.plan.specs.Part.{isRowOf, partStart}
 use Rattle.plan.proofs.own_rows.part_start.Statement.{statement}
 use Rattle.plan.proofs.own_rows.part_start.Tie as tie
-use Rattle.plan.proofs.own_rows.part_start.Reads as reads
-use Rattle.plan.proofs.own_rows.part_start.Lts as lts
 
 at-first : (j : ℕ) → 20 * j + 0 ≡ 20 * j
 at-first j = omega arith
