@@ -9,8 +9,14 @@ ghost use Rattle.plan.specs.Rows.{vcpuRows, taskRows};
 ghost use Rattle.times.specs.Times.{vcpuTime, taskTime as taskTimeOf};
 ghost use Rattle.times.specs.Valid.{Plan};
 ghost use Rattle.admission.specs.Admission.{isLate, microseconds};
+ghost use Rattle.admission.specs.Paper.{paperFound};
 use crate::search::Found;
+use crate::search::time_in_part;
 use crate::search::vcpu_time;
+use plan::part;
+use plan::part_start;
+use plan::task_word;
+use plan::vcpu_word;
 
 // The first row that is late, or the number of rows; and the times found before it.
 pub(crate) struct Times {
@@ -33,6 +39,36 @@ pub(crate) fn vcpu_times(reload: u32, vcpus: &[u32], tasks: &[u32], rows: u32) -
         i += 1;
     }
     Times { late: i, found }
+}
+
+// The time of a row of the task list, over the part of its VCPU alone.
+fn task_time(reload: u32, vcpus: &[u32], tasks: &[u32], j: u32) -> Found
+    requires { ⌜ Plan reload (now vcpus) (now tasks) × (j < taskRows (now tasks)) ⌝ }
+    ensures { λ r. ⌜ paperFound r ≡ taskTimeOf reload (now (vcpus .entry)) (now (tasks .entry)) j ⌝ }
+{
+    let v = task_word(tasks, j, 0);
+    let start = part_start(tasks, v) as u32;
+    let own = part(tasks, v);
+    time_in_part(vcpu_word(vcpus, v, 2), vcpu_word(vcpus, v, 3), reload, own, j - start)
+}
+
+// The tasks' times stand after the `first` that are known.
+pub(crate) fn task_times(reload: u32, vcpus: &[u32], tasks: &[u32], first: u32, known: [u32; 48]) -> Times
+    requires { ⌜ Plan reload (now vcpus) (now tasks) × (first ≤ 16) × (48 ≡ length known) ⌝ }
+    ensures { λ r. ⌜ (r .late ≡ lowest (λ j. isLate (taskTimeOf reload (now (vcpus .entry)) (now (tasks .entry)) j)) (taskRows (now (tasks .entry)))) × (take (first + r .late) (r .found) ≡ take first known ++ map (λ j. microseconds (taskTimeOf reload (now (vcpus .entry)) (now (tasks .entry)) j)) (upto (r .late))) × (48 ≡ length (r .found)) ⌝ }
+{
+    let rows = (tasks.len() / 20) as u32;
+    let mut found = known;
+    let mut j: u32 = 0;
+    while j < rows {
+        let Found::At(time) = task_time(reload, vcpus, tasks, j) else {
+            return Times { late: j, found };
+        };
+        let k = (first + j) as usize;
+        found[k] = time;
+        j += 1;
+    }
+    Times { late: j, found }
 }
 
 // The first `count` words of the lent list are those found.

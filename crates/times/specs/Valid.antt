@@ -1,6 +1,6 @@
 -- What refusals 15 to 18 leave of a plan's rows: the ranges under which need and times mean what document 01 says. The code that works
 -- out a time relies on them.
-use Prim.Native.Nat.{ℕ, suc, _+_, _*_, _<_, _≤_}
+use Prim.Native.Nat.{ℕ, _+_, _*_, _<_, _≤_}
 use mathlib.Core.List.{List}
 use lib.Count.{ones}
 use lib.ListN.{length}
@@ -40,4 +40,4 @@ pub record Plan (reload : ℕ) (vcpus tasks : List ℕ) : Type 0 where
   pub tasks-few : taskRows tasks ≤ 32
   pub task : (j : ℕ) → j < taskRows tasks → TaskRow tasks j
   pub names : (j : ℕ) → j < taskRows tasks → vcpuOf tasks j < vcpuRows vcpus
-  pub ascending : (j : ℕ) → suc j < taskRows tasks → vcpuOf tasks j ≤ vcpuOf tasks (suc j)
+  pub ascending : (j : ℕ) → j + 1 < taskRows tasks → vcpuOf tasks j ≤ vcpuOf tasks (j + 1)
