@@ -1,2 +1,4 @@
 -- The laws of `admission`.
+pub mod Admits
 pub mod Fit
+pub mod Written
