@@ -17,6 +17,10 @@ use Rattle.lists.proofs.Found.{found, missed, sought-le}
 use Rattle.plan.specs.Rows.{taskWord, vcpuOf, colourSet, cost, colours-shared, taskRows}
 use Rattle.plan.specs.Part.{isRowOf, partStart, partEnd, partOf}
 
+-- the place of a row's first word
+pub at-first : (j : ℕ) → 20 * j + 0 ≡ 20 * j
+at-first j = omega arith
+
 -- a search goes no lower than it starts
 pub sought-ge : (p : ℕ → Bool) (i n : ℕ) → i ≤ n → i ≤ lowestFrom p i n
 sought-ge p i n l = below-or-not (lowestFrom p i n) n (λ h. found p i n h .low) (λ h. omega arith)
