@@ -4,3 +4,4 @@ pub mod Joined
 pub mod Faults
 pub mod Passed
 pub mod Accepted
+pub mod PartRows

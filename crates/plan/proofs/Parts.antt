@@ -3,19 +3,23 @@
 use Prim.Native.Nat.{ℕ, zero, suc, _+_, _-_, _*_, _<_, _≤_}
 use native.Mathlib.Nat.{le-refl}
 use native.Mathlib.Omega.{arith}
-use mathlib.Core.Bool.{Bool, true, not, false≢true}
+use mathlib.Core.Bool.{Bool, true, false, not, false≢true}
 use mathlib.Core.List.{List}
 use mathlib.Core.Path.{_≡_, refl, sym, ap, _∙_}
 use lib.Count.{ones}
 use lib.ListN.{length, getD, drop, length-drop}
 use lib.Seq.{length-take-le, getD-take, getD-drop}
-use borrow.Author.Tests.{eqb-true, eq-eqb, not-true}
+use borrow.Author.Tests.{eqb-true, eq-eqb, not-true, not-false}
 use Rattle.lists.specs.Range.{lowestFrom}
 use Rattle.lists.proofs.Split.{below-or-not}
 use Rattle.lists.proofs.Sought.{sought-start}
 use Rattle.lists.proofs.Found.{found, missed, sought-le}
 use Rattle.plan.specs.Rows.{taskWord, vcpuOf, colourSet, cost, colours-shared, taskRows}
 use Rattle.plan.specs.Part.{isRowOf, partStart, partEnd, partOf}
+
+-- the place of a row's first word
+pub at-first : (j : ℕ) → 20 * j + 0 ≡ 20 * j
+at-first j = omega arith
 
 -- a search goes no lower than it starts
 pub sought-ge : (p : ℕ → Bool) (i n : ℕ) → i ≤ n → i ≤ lowestFrom p i n
@@ -66,6 +70,18 @@ module _ (tasks : List ℕ) (v : ℕ) where
       getD-take n (drop a tasks) (20 * i + k) 0 inside
       ∙ getD-drop a tasks (20 * i + k) 0
       ∙ ap (λ (m : ℕ). getD tasks m 0) same
+
+  -- every row of the part is the VCPU's own
+  pub part-own : (i : ℕ) → i < partEnd tasks v - partStart tasks v → vcpuOf tasks (partStart tasks v + i) ≡ v
+  unfolding partEnd
+  part-own i l =
+      let s : ℕ = partStart tasks v in
+      let n : ℕ = taskRows tasks in
+      let mine : other (s + i) ≡ false =
+      below-or-not (lowestFrom other s n) n
+      (λ h. found other s n h .before (s + i) (omega arith) (omega arith))
+      (λ h. missed other s n h (s + i) (omega arith) (omega (arith, sought-le other s n start-le))) in
+      eqb-true (vcpuOf tasks (s + i)) v (not-false (own (s + i)) mine)
 
   -- so a row of the part has the cost of its row in the list, and two of them share as many colours
   pub part-cost : (i : ℕ) → i < partEnd tasks v - partStart tasks v → ones (colourSet tasks (partStart tasks v + i)) ≤ 16

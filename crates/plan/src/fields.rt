@@ -1,7 +1,7 @@
 // Whether one row is at fault for refusal 17, 18, 19 or 20: document 01, "Refusals in the order
-// tested". Each function gives the answer of the definition of its name, for any list and any row.
+// tested". Each function gives the answer of the definition that it names.
 ghost use mathlib.Core.Path.{_≡_};
-ghost use Prim.Native.Nat.{_≤_};
+ghost use Prim.Native.Nat.{_≤_, _<_};
 ghost use Rattle.lists.specs.Range.{from, any};
 ghost use Rattle.board.specs.Tests.{grant, emptyOrOutside};
 ghost use Rattle.plan.specs.Rows.{domain, taskRows};
@@ -107,7 +107,7 @@ pub(crate) fn descends(tasks: &[u32], row: u32) -> bool
 
 // 20: a colour in common with a row of another VCPU, before it or after it.
 pub(crate) fn shares_colour(tasks: &[u32], rows: u32, row: u32) -> bool
-    requires { ⌜ rows ≡ taskRows (now tasks) ⌝ }
+    requires { ⌜ (rows ≡ taskRows (now tasks)) × (row < rows) ⌝ }
     ensures { λ r. ⌜ r ≡ sharesColour (now (tasks .entry)) row ⌝ }
 {
     let vcpu = task_word(tasks, row, 0);

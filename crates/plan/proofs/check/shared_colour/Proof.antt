@@ -2,7 +2,6 @@
 use Prim.Native.Nat.{_-_, _≤_}
 use native.Mathlib.Omega.{arith}
 use mathlib.Core.Path.{_≡_, sym, _∙_}
-use borrow.Author.Needs.{needs}
 use Rattle.lists.specs.Range.{lowest, lowestFrom}
 use Rattle.lists.proofs.Sought.{sought-start, sought-hit, sought-miss, sought-end}
 use Rattle.plan.specs.Tests.{sharesColour}
@@ -19,7 +18,7 @@ loop-holds : tie.Need-loop-holds Inv-loop μ-loop
 loop-holds c = let a = c .before .args in (omega arith, sought-start (sharesColour (a .tasks .now)) (a .rows))
 
 shares-colour-requires : tie.Need-shares-colour-requires Inv-loop μ-loop
-shares-colour-requires c κs = search needs
+shares-colour-requires c κs = (omega arith, omega arith)
 
 returns : tie.Need-returns Inv-loop μ-loop
 returns c =

@@ -1,6 +1,7 @@
 -- `plan::check::wrong_task` meets its contract. The invariant: the row at fault is looked for from `j` on.
 use Prim.Native.Nat.{_-_, _≤_}
 use native.Mathlib.Omega.{arith}
+use mathlib.Core.Bool.{true, false}
 use mathlib.Core.Path.{_≡_, sym, _∙_}
 use borrow.Author.Needs.{needs}
 use Rattle.lists.specs.Range.{lowest, lowestFrom}
@@ -25,7 +26,7 @@ returns : tie.Need-returns Inv-loop μ-loop
 returns c =
     let a = c .before .before .before .before .before .before .args in
     let h = c .before .before .before .loop in
-    let here = sym (c .before .bad-task .ensures) ∙ c .if1 .taken in
+    let here : badTask (a .board) (a .vcpus .now) (a .tasks .now) (h .j) ≡ true = rw (← c .before .bad-task .ensures) (c .if1 .taken) in
     sym (h .inv .1 ∙ sought-hit (badTask (a .board) (a .vcpus .now) (a .tasks .now)) (h .j) (a .rows) (omega arith) here)
 
 add-j : tie.Need-add-j Inv-loop μ-loop
@@ -38,7 +39,7 @@ loop-again : tie.Need-loop-again Inv-loop μ-loop
 loop-again c =
     let a = c .before .before .before .before .before .before .args in
     let h = c .before .before .before .loop in
-    let here = sym (c .before .bad-task .ensures) ∙ c .if1 .left in
+    let here : badTask (a .board) (a .vcpus .now) (a .tasks .now) (h .j) ≡ false = rw (← c .before .bad-task .ensures) (c .if1 .left) in
     (omega arith, h .inv .1 ∙ sought-miss (badTask (a .board) (a .vcpus .now) (a .tasks .now)) (h .j) (a .rows) (omega arith) here)
 
 returns-2 : tie.Need-returns-2 Inv-loop μ-loop

@@ -1,5 +1,5 @@
 -- `plan::own_rows::next_other` meets its contract. The invariant: the row of another VCPU is looked for from `j` on.
-use Prim.Native.Nat.{ℕ, _+_, _-_, _*_, _≤_}
+use Prim.Native.Nat.{ℕ, _-_, _≤_}
 use native.Mathlib.Omega.{arith}
 use mathlib.Core.Bool.{Bool, true, false, not}
 use mathlib.Core.List.{List}
@@ -11,23 +11,21 @@ use Rattle.lists.specs.Range.{lowestFrom}
 use Rattle.lists.proofs.Sought.{sought-hit, sought-miss, sought-end}
 use Rattle.plan.specs.Rows.{taskRows}
 use Rattle.plan.specs.Part.{isRowOf}
+use Rattle.plan.proofs.Parts.{at-first}
 use Rattle.plan.proofs.own_rows.next_other.Statement.{statement}
 use Rattle.plan.proofs.own_rows.next_other.Tie as tie
-
-at-first : (j : ℕ) → 20 * j + 0 ≡ 20 * j
-at-first j = omega arith
 
 abbrev other : List ℕ → ℕ → ℕ → Bool
 other tasks v j = not (isRowOf tasks v j)
 
 abbrev Inv-loop : tie.InvT-loop
-Inv-loop tasks start vcpu rows j₀ j = (rows ≡ taskRows tasks) × (j ≤ taskRows tasks) × (lowestFrom (other tasks vcpu) start (taskRows tasks) ≡ lowestFrom (other tasks vcpu) j (taskRows tasks))
+Inv-loop tasks start vcpu rows j₀ j = (rows ≡ taskRows tasks) × (start ≤ j) × (j ≤ taskRows tasks) × (lowestFrom (other tasks vcpu) start (taskRows tasks) ≡ lowestFrom (other tasks vcpu) j (taskRows tasks))
 
 abbrev μ-loop : tie.MeasureT-loop
 μ-loop tasks start vcpu rows j₀ j = rows - j
 
 loop-holds : tie.Need-loop-holds Inv-loop μ-loop
-loop-holds c = (refl, omega arith, refl)
+loop-holds c = (refl, omega arith, omega arith, refl)
 
 mul-if1 : tie.Need-mul-if1 Inv-loop μ-loop
 mul-if1 c = omega arith
@@ -44,7 +42,7 @@ returns c =
     let t : List ℕ = a .tasks .now in
     let h = c .before .before .before .loop in
     let here : other t (a .vcpu) (h .j) ≡ true = ap (λ (k : ℕ). not (eqb (getD t k 0) (a .vcpu))) (at-first (h .j)) ∙ ap not (ne-eqb _ _ (c .if1 .taken)) in
-    sym (h .inv .2 ∙ sought-hit (other t (a .vcpu)) (h .j) (taskRows t) (omega arith) here)
+    sym (h .inv .3 ∙ sought-hit (other t (a .vcpu)) (h .j) (taskRows t) (omega arith) here)
 
 add-j : tie.Need-add-j Inv-loop μ-loop
 add-j c = omega arith
@@ -58,7 +56,7 @@ loop-again c =
     let t : List ℕ = a .tasks .now in
     let h = c .before .before .before .loop in
     let here : other t (a .vcpu) (h .j) ≡ false = ap (λ (k : ℕ). not (eqb (getD t k 0) (a .vcpu))) (at-first (h .j)) ∙ ap not (eq-eqb _ _ (c .if1 .left)) in
-    (h .inv .0, omega arith, h .inv .2 ∙ sought-miss (other t (a .vcpu)) (h .j) (taskRows t) (omega arith) here)
+    (h .inv .0, omega arith, omega arith, h .inv .3 ∙ sought-miss (other t (a .vcpu)) (h .j) (taskRows t) (omega arith) here)
 
 returns-2 : tie.Need-returns-2 Inv-loop μ-loop
 returns-2 c =
@@ -66,7 +64,7 @@ returns-2 c =
     let t : List ℕ = a .tasks .now in
     let h = c .before .loop in
     let done : h .j ≡ taskRows t = omega arith in
-    done ∙ sym (h .inv .2 ∙ sought-end (other t (a .vcpu)) (h .j) (taskRows t) (omega arith))
+    done ∙ sym (h .inv .3 ∙ sought-end (other t (a .vcpu)) (h .j) (taskRows t) (omega arith))
 
 pub next-other-spec : {M : Type 1} → statement M
 next-other-spec =

@@ -1,5 +1,5 @@
 -- `plan::own_rows::part_start` meets its contract. The invariant: the first row is looked for from `j` on.
-use Prim.Native.Nat.{ℕ, _+_, _-_, _*_, _≤_}
+use Prim.Native.Nat.{ℕ, _-_, _≤_}
 use native.Mathlib.Omega.{arith}
 use mathlib.Core.Bool.{true, false}
 use mathlib.Core.List.{List}
@@ -11,11 +11,9 @@ use Rattle.lists.specs.Range.{lowestFrom}
 use Rattle.lists.proofs.Sought.{sought-start, sought-hit, sought-miss, sought-end}
 use Rattle.plan.specs.Rows.{taskRows}
 use Rattle.plan.specs.Part.{isRowOf, partStart}
+use Rattle.plan.proofs.Parts.{at-first}
 use Rattle.plan.proofs.own_rows.part_start.Statement.{statement}
 use Rattle.plan.proofs.own_rows.part_start.Tie as tie
-
-at-first : (j : ℕ) → 20 * j + 0 ≡ 20 * j
-at-first j = omega arith
 
 abbrev Inv-loop : tie.InvT-loop
 Inv-loop tasks vcpu rows j₀ j = (rows ≡ taskRows tasks) × (j ≤ taskRows tasks) × (partStart tasks vcpu ≡ lowestFrom (isRowOf tasks vcpu) j (taskRows tasks))
