@@ -1,4 +1,5 @@
 -- `plan::fields::bad_task` meets its contract, test by test.
+use mathlib.Core.Bool.{not, _||_}
 use mathlib.Core.Logic.{⊎-elim}
 use mathlib.Core.Path.{_≡_, refl, sym, ap, _∙_}
 use lib.Dec.{ltb}
@@ -7,7 +8,6 @@ use Rattle.board.specs.Tests.{grant, emptyOrOutside}
 use Rattle.plan.specs.Rows.{domain, vcpuRows}
 use Rattle.plan.specs.Tests.{zeroOrAbove, badCost, badTask}
 use Rattle.plan.proofs.Joined.{or-first, or-next}
-use mathlib.Core.Bool.{not, _||_}
 use borrow.Author.Tests.{lt-ltb, le-ltb}
 use borrow.Author.Needs.{needs}
 use Rattle.plan.proofs.fields.bad_task.Statement.{statement}
@@ -44,9 +44,10 @@ zero-or-above-requires c κs = search needs
 
 returns : tie.Need-returns
 returns c =
+    let words = by-words (c .before) in
     ⊎-elim
-    (λ w. simp (← c .before .before .before .before .task-word .ensures, le-ltb _ _ (w .taken)))
-    (λ w. simp (← c .before .before .before .before .task-word .ensures, ← c .before .before .before .task-word2 .ensures, lt-ltb _ _ (w .0 .left), sym (w .1 .ensures) ∙ w .2 .taken))
+    (λ w. sym (words ∙ or-first _ _ (ap not (le-ltb _ _ (w .taken)))))
+    (λ w. sym (words ∙ or-next _ _ (ap not (lt-ltb _ _ (w .0 .left))) ∙ or-first _ _ (sym (w .1 .ensures) ∙ w .2 .taken)))
     (c .if1 .came)
 
 zero-or-above-requires-2 : tie.Need-zero-or-above-requires-2
