@@ -1,14 +1,10 @@
 -- The order of refusals in admission: the board's, then the plan's, then late VCPUs, then late tasks. And what an accepted plan gives the
 -- search for times.
 use Prim.Native.Nat.{ℕ, _+_, _<_, _≤_}
-use native.Mathlib.Omega.{arith}
-use mathlib.Core.Bool.{Bool}
-use mathlib.Core.List.{List, [], _++_, map, append-nil}
-use mathlib.Core.Path.{_≡_, refl, sym, ap, _∙_}
-use lib.Dec.{ltb}
-use lib.ListN.{length, take, drop}
+use mathlib.Core.List.{List, [], _++_, append-nil}
+use mathlib.Core.Path.{_≡_, sym, ap, _∙_}
 use borrow.Author.Tests.{lt-ltb, le-ltb}
-use Rattle.lists.specs.Range.{lowest, upto}
+use Rattle.lists.specs.Range.{lowest}
 use Rattle.refusal.specs.Reply.{Answers, Refuses, Test, each, unless}
 use Rattle.refusal.proofs.Replies.{answers-passed}
 use Rattle.refusal.proofs.Order.{unless-refused, unless-passed, unless-each}
@@ -16,7 +12,7 @@ use Rattle.board.specs.declared.Board.{Board}
 use Rattle.board.specs.Tests.{boardTests, boardReply}
 use Rattle.plan.specs.Rows.{vcpuRows, taskRows}
 use Rattle.plan.specs.Tests.{planTests, planReply}
-use Rattle.plan.proofs.Accepted.{PlanAccepted, accepted, costed}
+use Rattle.plan.proofs.Accepted.{accepted, costed}
 use Rattle.times.specs.Times.{taskTime, vcpuTime}
 use Rattle.times.specs.Valid.{Plan}
 use Rattle.admission.specs.Admission.{isLate, timeTests, admissionReply}

@@ -2,11 +2,10 @@
 use Prim.Native.Nat.{ℕ, _+_, _-_, _<_, _≤_}
 use native.Mathlib.Omega.{arith}
 use mathlib.Core.List.{List}
-use mathlib.Core.Path.{_≡_}
 use Rattle.supply.specs.Supply.{Budget}
 use Rattle.plan.specs.Rows.{vcpuPeriod, budget, vcpuOf, taskRows}
 use Rattle.plan.specs.Part.{partStart, partEnd, partOf}
-use Rattle.plan.proofs.Parts.{end-le, part-length, part-word, row-in-part}
+use Rattle.plan.proofs.Parts.{part-length, part-word, row-in-part}
 use Rattle.times.specs.Valid.{TaskRows, Plan}
 use Rattle.times.proofs.PartRows.{part-row}
 

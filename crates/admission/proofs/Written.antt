@@ -62,5 +62,5 @@ module _ (b : Board) (reload : ℕ) (vcpus tasks lent : List ℕ) where
       let all-vcpus : i ≡ vcpuRows vcpus = whole late-vcpu (vcpuRows vcpus) i l m in
       let all-tasks : j ≡ taskRows tasks = whole late-task (taskRows tasks) j l′ m′ in
       let front : take (vcpuRows vcpus + taskRows tasks) found ≡ vcpuTimes vcpus ++ taskTimes reload vcpus tasks =
-        rw (all-tasks, rw all-vcpus at k) at f in
+      rw (all-tasks, rw all-vcpus at k) at f in
       (sym e, rw (e, front, length-times))

@@ -24,7 +24,13 @@ pub enum Admission {
 
 // The verdict on a plan. Admitted, the list holds the times of the VCPUs and then of the tasks;
 // refused, it is as it was.
-pub fn admit_plan(board: Board, reload: u32, vcpus: &[u32], tasks: &[u32], times: &mut [u32]) -> Admission
+pub fn admit_plan(
+    board: Board,
+    reload: u32,
+    vcpus: &[u32],
+    tasks: &[u32],
+    times: &mut [u32],
+) -> Admission
     ensures { λ r. ⌜ paperAdmission r ≡ admissionReply board reload (now (vcpus .entry)) (now (tasks .entry)) (length (now (times .entry))) ⌝ }
     ensures { λ r. ⌜ now (times .exit) ≡ timesAfter board reload (now (vcpus .entry)) (now (tasks .entry)) (now (times .entry)) ⌝ }
 {
@@ -37,13 +43,19 @@ pub fn admit_plan(board: Board, reload: u32, vcpus: &[u32], tasks: &[u32], times
     let vcpu_rows = (vcpus.len() / 4) as u32;
     let known = vcpu_times(reload, vcpus, tasks, vcpu_rows);
     if known.late < vcpu_rows {
-        return Admission::Refused(Refusal { number: 21, row: known.late });
+        return Admission::Refused(Refusal {
+            number: 21,
+            row: known.late,
+        });
     }
     let task_rows = (tasks.len() / 20) as u32;
     let found = known.found;
     let all = task_times(reload, vcpus, tasks, vcpu_rows, found);
     if all.late < task_rows {
-        return Admission::Refused(Refusal { number: 22, row: all.late });
+        return Admission::Refused(Refusal {
+            number: 22,
+            row: all.late,
+        });
     }
     let found = all.found;
     write_times(times, found, (vcpu_rows + task_rows) as usize);

@@ -4,7 +4,7 @@ ghost use mathlib.Core.Path.{_≡_};
 ghost use Prim.Native.Nat.{_≤_, _<_};
 ghost use Rattle.times.specs.Need.{arrivals as arrivalsOf};
 ghost use Rattle.times.specs.Times.{charge as chargeOf, taskNeed, vcpuCharge, vcpuNeed};
-ghost use Rattle.times.specs.Valid.{TaskRow, TaskRows, VcpuRow, VcpuRows};
+ghost use Rattle.times.specs.Valid.{TaskRow, TaskRows, VcpuRows};
 use plan::cost;
 use plan::shared;
 use plan::task_word;

@@ -49,11 +49,23 @@ fn task_time(reload: u32, vcpus: &[u32], tasks: &[u32], j: u32) -> Found
     let v = task_word(tasks, j, 0);
     let start = part_start(tasks, v) as u32;
     let own = part(tasks, v);
-    time_in_part(vcpu_word(vcpus, v, 2), vcpu_word(vcpus, v, 3), reload, own, j - start)
+    time_in_part(
+        vcpu_word(vcpus, v, 2),
+        vcpu_word(vcpus, v, 3),
+        reload,
+        own,
+        j - start,
+    )
 }
 
 // The tasks' times stand after the `first` that are known.
-pub(crate) fn task_times(reload: u32, vcpus: &[u32], tasks: &[u32], first: u32, known: [u32; 48]) -> Times
+pub(crate) fn task_times(
+    reload: u32,
+    vcpus: &[u32],
+    tasks: &[u32],
+    first: u32,
+    known: [u32; 48],
+) -> Times
     requires { ⌜ Plan reload (now vcpus) (now tasks) × (first ≤ 16) × (48 ≡ length known) ⌝ }
     ensures { λ r. ⌜ (r .late ≡ lowest (λ j. isLate (taskTimeOf reload (now (vcpus .entry)) (now (tasks .entry)) j)) (taskRows (now (tasks .entry)))) × (take (first + r .late) (r .found) ≡ take first known ++ map (λ j. microseconds (taskTimeOf reload (now (vcpus .entry)) (now (tasks .entry)) j)) (upto (r .late))) × (48 ≡ length (r .found)) ⌝ }
 {

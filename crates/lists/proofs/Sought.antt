@@ -6,7 +6,7 @@ use native.Mathlib.Numerals.{add-one}
 use native.Mathlib.Omega.{arith}
 use mathlib.Core.Bool.{Bool, true, false}
 use mathlib.Core.Path.{_≡_}
-use Rattle.lists.specs.Range.{from, upto, any, headOr, lowest, lowestFrom}
+use Rattle.lists.specs.Range.{from, upto, any, lowest, lowestFrom}
 use Rattle.lists.proofs.Kept.{ahead, ahead-start, ahead-take, ahead-skip, ahead-end}
 
 module _ (p : ℕ → Bool) where

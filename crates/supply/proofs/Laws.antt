@@ -1,9 +1,9 @@
 -- The laws of supply: `firstSupply x` is the first time with supply x, and from that the supply never falls, is at most the time, and
 -- grows by at most 1 a microsecond.
-use Prim.Native.Nat.{ℕ, zero, suc, _+_, _-_, _*_, _/_, _%_, _<_, _≤_}
-use native.Mathlib.Nat.{zero-div, zero-mod, mod-lt, div-add-mod', suc-mul, mul-le-mul-right, mul-le-mul-left, le-div-iff-mul-le, div-mul-le-self, lt-irrefl, lt-of-lt-of-le, le-refl, le-trans}
+use Prim.Native.Nat.{ℕ, suc, _+_, _-_, _*_, _/_, _%_, _<_, _≤_}
+use native.Mathlib.Nat.{zero-div, zero-mod, mod-lt, div-add-mod', suc-mul, mul-le-mul-right, mul-le-mul-left, lt-irrefl, lt-of-lt-of-le, le-refl, le-trans}
 use native.Mathlib.Omega.{arith}
-use mathlib.Core.Path.{_≡_, refl, sym, ap, _∙_}
+use mathlib.Core.Path.{_≡_, ap, _∙_}
 use lib.Arith.{digits-div, digits-mod}
 use Rattle.lists.proofs.Split.{below-or-not}
 use Rattle.supply.specs.Supply.{supply, firstSupply, Budget}

@@ -1,10 +1,10 @@
 -- The laws of need, over any periods and charges: it never falls, is at least the own cost, and has a bound for bounded charges.
 use Prim.Native.Nat.{ℕ, zero, suc, _+_, _-_, _*_, _/_, _<_, _≤_}
-use native.Mathlib.Nat.{le-refl, le-trans, add-le-add, mul-le-mul, mul-le-mul-right, le-div-iff-mul-le, div-mul-le-self, div-zero, zero-mul, mul-zero, eq-zero-or-pos, div-lt-iff-lt-mul, le-of-suc-le-suc, le-of-eq, le-mul-of-pos-right, suc-mul}
+use native.Mathlib.Nat.{le-refl, le-trans, add-le-add, mul-le-mul, mul-le-mul-right, le-div-iff-mul-le, div-mul-le-self, div-zero, eq-zero-or-pos, div-lt-iff-lt-mul, le-of-suc-le-suc, le-of-eq, le-mul-of-pos-right, suc-mul}
 use native.Mathlib.Numerals.{add-one}
 use native.Mathlib.Omega.{arith}
 use mathlib.Core.Logic.{⊎-elim}
-use mathlib.Core.Path.{_≡_, refl, sym, ap, _∙_}
+use mathlib.Core.Path.{_≡_, sym, _∙_}
 use Rattle.times.specs.Need.{arrivals, need}
 
 div-mono : (k : ℕ) {a c : ℕ} → a ≤ c → a / k ≤ c / k

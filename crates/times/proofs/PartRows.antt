@@ -2,16 +2,15 @@
 use Prim.Native.Nat.{ℕ, _+_, _*_, _<_, _≤_}
 use native.Mathlib.Omega.{arith}
 use mathlib.Core.List.{List}
-use mathlib.Core.Path.{_≡_, sym, ap, _∙_}
+use mathlib.Core.Path.{_≡_}
 use lib.Count.{ones}
 use lib.ListN.{length}
-use Rattle.plan.specs.Rows.{taskWord, taskPeriod, deadline, colourSet, cost}
+use Rattle.plan.specs.Rows.{taskWord, colourSet, cost}
 use Rattle.times.specs.Valid.{TaskRow}
 
 -- part has n rows, and its row i is row s + i of tasks
 module _ (tasks part : List ℕ) (s n : ℕ) (words : (i k : ℕ) → i < n → k < 20 → taskWord part i k ≡ taskWord tasks (s + i) k)
     (whole : length part ≡ 20 * n) where
-
   part-cost : (i : ℕ) → i < n → ones (colourSet tasks (s + i)) ≤ 16 → cost part i ≡ cost tasks (s + i)
   unfolding cost
   part-cost i h few = rw (words i 3 h (omega arith)) (words i (3 + ones (colourSet tasks (s + i))) h (omega arith))

@@ -1,11 +1,11 @@
 -- What a planner relies on: what a reported time says, and that lowering a cost, the reload or a colour overlap, or raising the VCPU's
 -- budget, never makes a task's time later; a task added at the end changes no other task's time.
 use Prim.Native.Nat.{ℕ, zero, suc, _+_, _*_, _<_, _≤_}
-use native.Mathlib.Nat.{le-refl, le-trans, lt-irrefl, add-le-add, mul-le-mul, mul-le-mul-left}
+use native.Mathlib.Nat.{le-refl, le-trans, add-le-add, mul-le-mul, mul-le-mul-left}
 use native.Mathlib.Omega.{arith}
-use mathlib.Core.Bool.{Bool, true, false, true≢false}
+use mathlib.Core.Bool.{Bool, true, true≢false}
 use mathlib.Core.List.{List, _++_}
-use mathlib.Core.Path.{_≡_, refl, sym, ap, ap₂, _∙_}
+use mathlib.Core.Path.{_≡_, refl, sym, ap, _∙_}
 use lib.Dec.{leb}
 use lib.Count.{ones}
 use lib.ListN.{length, List·getD-append}

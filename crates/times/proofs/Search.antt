@@ -4,11 +4,11 @@ use Prim.Native.Nat.{ℕ, zero, suc, _+_, _<_, _≤_}
 use native.Mathlib.Nat.{le-refl, lt-irrefl, le-trans}
 use native.Mathlib.Omega.{arith}
 use mathlib.Core.Bool.{Bool, true, false}
-use mathlib.Core.Path.{_≡_, refl, sym, ap, _∙_}
+use mathlib.Core.Path.{_≡_, refl}
 use lib.Dec.{leb}
-use borrow.Author.Tests.{le-leb, lt-leb, leb-true, leb-false}
+use borrow.Author.Tests.{le-leb, lt-leb, leb-false}
 use Rattle.lists.proofs.Split.{cases, below-or-not}
-use Rattle.times.specs.First.{Time, At, Late, firstFrom, firstTime}
+use Rattle.times.specs.First.{At, Late, firstFrom, firstTime}
 
 module _ (ok : ℕ → Bool) where
   -- the first of the n times from i on

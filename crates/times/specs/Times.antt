@@ -1,6 +1,5 @@
 -- Task time and VCPU time: document 01, "Plans". A task's rows are those of its VCPU's part, a VCPU's those of the whole list.
-use Prim.Native.Nat.{ℕ, _+_, _-_, _*_, _<_}
-use mathlib.Core.Bool.{Bool}
+use Prim.Native.Nat.{ℕ, _+_, _-_, _*_}
 use mathlib.Core.List.{List}
 use lib.Dec.{eqb, leb}
 use Rattle.lists.specs.Choice.{if_then_else_}

@@ -1,5 +1,5 @@
 -- `admission::admit_plan` meets its contract: each return has the tests and the times that led there.
-use Prim.Native.Nat.{ℕ, _≤_}
+use Prim.Native.Nat.{ℕ}
 use native.Mathlib.Omega.{arith}
 use mathlib.Core.List.{List}
 use mathlib.Core.Path.{_≡_, refl, sym, ap, _∙_}
@@ -8,7 +8,6 @@ use borrow.Author.Needs.{needs}
 use Rattle.refusal.specs.Reply.{Answers}
 use Rattle.board.specs.Paper.{paperChecked}
 use Rattle.board.specs.Tests.{boardReply}
-use Rattle.plan.specs.Rows.{vcpuRows, taskRows}
 use Rattle.plan.specs.Tests.{planReply}
 use Rattle.times.specs.Valid.{Plan}
 use Rattle.admission.proofs.Admits.{plan-of, room-of, by-board, by-plan, late-vcpu, late-task, none-late}

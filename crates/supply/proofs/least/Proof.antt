@@ -1,8 +1,7 @@
 -- `supply::least` meets its contract: a period of 0 is apart, and the product of two 32-bit numbers with one more fits 64 bits.
-use Prim.Native.Nat.{ℕ, _-_, _*_, _/_, _%_, _≤_}
+use Prim.Native.Nat.{_*_, _/_, _≤_}
 use native.Mathlib.Nat.{div-zero, mod-zero, zero-mul, zero-add, sub-zero, zero-sub, mod-le, div-le-self, mul-le-mul}
 use native.Mathlib.Omega.{arith}
-use mathlib.Core.Path.{_≡_}
 use Rattle.supply.specs.Supply.{supply}
 use borrow.Author.Needs.{needs}
 use Rattle.supply.proofs.least.Statement.{statement}

@@ -1,6 +1,6 @@
 -- `admission::need::task_need` meets its contract. The invariant: the sum is the need over the rows passed, which has a bound.
 use Prim.Native.Nat.{ℕ, _+_, _-_, _*_, _≤_}
-use native.Mathlib.Nat.{le-refl, le-trans, mul-le-mul}
+use native.Mathlib.Nat.{le-trans, mul-le-mul}
 use native.Mathlib.Omega.{arith}
 use mathlib.Core.Path.{_≡_, sym, ap, ap₂, _∙_}
 use Rattle.plan.specs.Rows.{taskPeriod, cost}
@@ -9,7 +9,6 @@ use Rattle.times.specs.Times.{charge, taskNeed}
 use Rattle.times.specs.Valid.{TaskRow}
 use Rattle.times.proofs.Needs.{arrivals-le, need-next}
 use Rattle.times.proofs.Rows.{charge-le, task-need-le}
-use borrow.Author.Needs.{needs}
 use Rattle.admission.proofs.need.task_need.Statement.{statement}
 use Rattle.admission.proofs.need.task_need.Tie as tie
 
@@ -72,11 +71,10 @@ loop-again c =
     let s = c .before .before .before .before .before .before .before in
     let a = s .args in
     let h = c .before .before .before .before .loop in
-    let term = rw (c .before .before .task-word .ensures) at (c .before .arrivals .ensures) in
-    (
+    let term = rw (c .before .before .task-word .ensures) at (c .before .arrivals .ensures) in (
       omega arith,
       ap₂ (λ (x y : ℕ). x + y) (h .inv .1) (ap₂ (λ (x y : ℕ). x * y) term (c .charge .ensures))
-      ∙ sym (need-next (cost (a .part .now) (a .i)) (taskPeriod (a .part .now)) (charge (a .reload) (a .part .now) (a .i)) (h .j) (a .t)),
+          ∙ sym (need-next (cost (a .part .now) (a .i)) (taskPeriod (a .part .now)) (charge (a .reload) (a .part .now) (a .i)) (h .j) (a .t)),
     )
 
 returns : tie.Need-returns Inv-loop μ-loop

@@ -72,11 +72,10 @@ loop-again : tie.Need-loop-again Inv-loop μ-loop
 loop-again c =
     let a = c .before .before .before .before .before .before .before .args in
     let h = c .before .before .before .before .loop in
-    let term = rw (c .before .before .vcpu-word2 .ensures) at (c .before .arrivals .ensures) in
-    (
+    let term = rw (c .before .before .vcpu-word2 .ensures) at (c .before .arrivals .ensures) in (
       omega arith,
       ap₂ (λ (x y : ℕ). x + y) (h .inv .1) (ap₂ (λ (x y : ℕ). x * y) term (c .vcpu-charge .ensures))
-      ∙ sym (need-next (budget (a .vcpus .now) (a .i)) (vcpuPeriod (a .vcpus .now)) (vcpuCharge (a .vcpus .now) (a .i)) (h .j) (a .t)),
+          ∙ sym (need-next (budget (a .vcpus .now) (a .i)) (vcpuPeriod (a .vcpus .now)) (vcpuCharge (a .vcpus .now) (a .i)) (h .j) (a .t)),
     )
 
 returns : tie.Need-returns Inv-loop μ-loop

@@ -2,7 +2,7 @@
 use Prim.Native.Nat.{ℕ, _+_, _-_, _<_, _≤_}
 use native.Mathlib.Nat.{add-zero}
 use native.Mathlib.Omega.{arith}
-use mathlib.Core.Bool.{Bool, true, false}
+use mathlib.Core.Bool.{Bool, true}
 use mathlib.Core.List.{List, [], _∷_, _++_, map, append-nil, append-assoc}
 use mathlib.Core.Path.{_≡_, refl, sym, ap, _∙_}
 use lib.ListN.{length, take, length-set}
@@ -90,16 +90,15 @@ loop-again c =
     let found-at : taskTime (s .args .reload) (s .args .vcpus .now) (s .args .tasks .now) (h .j) ≡ At x = sym (c .before .before .before .task-time .ensures) ∙ ap paperFound (c .before .time .given .1) in
     let k : ℕ = s .args .first + h .j in
     let inside : k < length (h .found) = omega (arith, h .inv .1, h .inv .2, s .pre .0 .tasks-few, s .pre .1) in
-    let next : s .args .first + (h .j + 1) ≡ k + 1 = omega arith in
-    (
+    let next : s .args .first + (h .j + 1) ≡ k + 1 = omega arith in (
       omega arith,
       h .inv .1,
       h .inv .2 ∙ sym (length-set (h .found) k x),
       h .inv .3 ∙ sought-miss l (h .j) _ (c .before .before .before .before .loop-test .taken) (ap isLate found-at),
       rw next
-      (take-next (h .found) k x inside
-      ∙ rw (h .inv .4, ← (ap microseconds found-at)) (append-assoc (take (s .args .first) (s .args .known)) (map t (upto (h .j))) (t (h .j) ∷ []))
-      ∙ ap (λ (r : List ℕ). take (s .args .first) (s .args .known) ++ r) (sym (map-next t (h .j)))),
+          (take-next (h .found) k x inside
+          ∙ rw (h .inv .4, ← (ap microseconds found-at)) (append-assoc (take (s .args .first) (s .args .known)) (map t (upto (h .j))) (t (h .j) ∷ []))
+          ∙ ap (λ (r : List ℕ). take (s .args .first) (s .args .known) ++ r) (sym (map-next t (h .j)))),
     )
 
 returns-2 : tie.Need-returns-2 Inv-loop μ-loop

@@ -11,7 +11,6 @@ use Rattle.lists.proofs.Sought.{sought-start, sought-hit, sought-miss, sought-e
 use Rattle.lists.proofs.Written.{map-next, take-next}
 use Rattle.times.specs.First.{At}
 use Rattle.times.specs.Times.{vcpuTime}
-use Rattle.times.specs.Valid.{VcpuRows}
 use Rattle.admission.specs.Admission.{isLate, microseconds}
 use Rattle.admission.specs.Paper.{paperFound}
 use Rattle.admission.proofs.rows.vcpu_times.Statement.{statement}
@@ -73,13 +72,12 @@ loop-again c =
     let h = c .before .before .before .before .before .loop in
     let found-at : vcpuTime (s .args .vcpus .now) (h .i) ≡ At (c .before .time .given .0 .0) = sym (c .before .before .before .vcpu-time .ensures) ∙ ap paperFound (c .before .time .given .1) in
     let in-time : late (s .args .vcpus .now) (h .i) ≡ false = ap isLate found-at in
-    let inside : h .i < length (h .found) = omega (arith, h .inv .1, s .pre .0 .vcpus-few, s .pre .1) in
-    (
+    let inside : h .i < length (h .found) = omega (arith, h .inv .1, s .pre .0 .vcpus-few, s .pre .1) in (
       omega arith,
       h .inv .1 ∙ sym (length-set (h .found) (h .i) (c .before .time .given .0 .0)),
       h .inv .2 ∙ sought-miss (late (s .args .vcpus .now)) (h .i) (s .args .rows) (c .before .before .before .before .loop-test .taken) in-time,
       take-next (h .found) (h .i) (c .before .time .given .0 .0) inside
-      ∙ rw (h .inv .3, ← (ap microseconds found-at)) (sym (map-next (time (s .args .vcpus .now)) (h .i))),
+          ∙ rw (h .inv .3, ← (ap microseconds found-at)) (sym (map-next (time (s .args .vcpus .now)) (h .i))),
     )
 
 returns-2 : tie.Need-returns-2 Inv-loop μ-loop

@@ -2,7 +2,7 @@
 use Prim.Native.Nat.{ℕ, _-_, _<_, _≤_}
 use native.Mathlib.Omega.{arith}
 use mathlib.Core.List.{_++_}
-use mathlib.Core.Path.{_≡_, refl, sym, ap, _∙_}
+use mathlib.Core.Path.{_≡_, refl, ap, _∙_}
 use lib.ListN.{length, take, drop, length-set}
 use borrow.Author.Needs.{needs}
 use Rattle.lists.proofs.Written.{write-next}
@@ -43,7 +43,6 @@ loop-again c =
     let in-found : h .k < length (s .args .t2) = omega (arith, s .pre .0, s .pre .2) in
     let in-list : h .k < length (s .args .times .now) = omega (arith, s .pre .1) in
     (omega arith, simp length-set (h .inv .1), rw (h .inv .2) (write-next (s .args .t2) (s .args .times .now) (h .k) in-found in-list))
-
 
 same-length : tie.Need-same-length Inv-loop μ-loop
 same-length c = search needs

@@ -1,5 +1,5 @@
 -- `admission::search::first_supply` meets its contract: for amounts up to 1,000,000 the inverse fits.
-use Prim.Native.Nat.{_-_, _*_, _/_, _%_, _≤_}
+use Prim.Native.Nat.{_-_, _*_, _/_, _≤_}
 use native.Mathlib.Nat.{div-le-self, mod-le, mul-le-mul}
 use native.Mathlib.Omega.{arith}
 use mathlib.Core.Path.{refl}

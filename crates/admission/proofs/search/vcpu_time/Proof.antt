@@ -3,7 +3,7 @@ use Prim.Native.Nat.{ℕ, _+_, _-_, _<_, _≤_}
 use native.Mathlib.Nat.{le-refl}
 use native.Mathlib.Omega.{arith}
 use mathlib.Core.Bool.{false}
-use mathlib.Core.Path.{_≡_, sym, _∙_}
+use mathlib.Core.Path.{_≡_, sym}
 use lib.Dec.{leb}
 use Rattle.plan.specs.Rows.{vcpuPeriod}
 use Rattle.times.specs.Times.{vcpuNeed, vcpuTime}
