@@ -1,12 +1,13 @@
 -- What a search along a range has found: the lowest number that passes heads the list of those that do, and nothing before it passes.
 use Prim.Native.Nat.{ℕ, zero, suc, _+_, _-_, _<_, _≤_}
-use native.Mathlib.Nat.{le-refl, lt-irrefl}
+use native.Mathlib.Nat.{le-refl, eq-or-lt-of-le, lt-irrefl}
 use native.Mathlib.Omega.{arith}
 use mathlib.Core.Bool.{Bool, true, false}
 use mathlib.Core.List.{[], _∷_}
+use mathlib.Core.Logic.{⊎-elim}
 use mathlib.Core.Path.{_≡_, ap, _∙_}
-use Rattle.lists.specs.Range.{upto, keep, lowestFrom}
-use Rattle.lists.proofs.Split.{cases, below-or-not}
+use Rattle.lists.specs.Range.{from, upto, keep, any, lowestFrom}
+use Rattle.lists.proofs.Split.{cases, below-or-not, neither}
 use Rattle.lists.proofs.Kept.{ahead, ahead-start, ahead-take, ahead-skip, ahead-end}
 use Rattle.lists.proofs.Sought.{sought-hit, sought-miss, sought-end}
 
@@ -100,3 +101,18 @@ module _ (p : ℕ → Bool) where
   unfolding lowestFrom ahead
   sought-le i n l =
       below-or-not (lowestFrom p i n) n (λ h. omega arith) (λ h. rw (missed-list i n l h) (le-refl n))
+
+-- what holds of i, and of d where d comes later, holds of any d from i on
+pub from-on : (P : ℕ → Type 0) (i d : ℕ) → i ≤ d → P i → (i < d → P d) → P d
+from-on P i d l here later = ⊎-elim (λ q. rw (← q) here) later (eq-or-lt-of-le l)
+
+-- a test that no number of a range passes
+pub any-from : (p : ℕ → Bool) (n i d : ℕ) → any p (from i n) ≡ false → i ≤ d → d < i + n → p d ≡ false
+unfolding from
+any-from p zero i d e l h = absurd (lt-irrefl d (omega arith))
+any-from p (suc n) i d e l h =
+    let r = neither (p i) (any p (from (suc i) n)) e in
+    from-on (λ (x : ℕ). p x ≡ false) i d l (r .0) (λ m. any-from p n (suc i) d (r .1) m (omega arith))
+
+pub any-none : (p : ℕ → Bool) (n d : ℕ) → any p (upto n) ≡ false → d < n → p d ≡ false
+any-none p n d e h = any-from p n 0 d e (omega arith) (omega arith)

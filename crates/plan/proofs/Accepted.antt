@@ -13,9 +13,10 @@ use lib.ListN.{length}
 use borrow.Author.Tests.{ltb-true, ltb-false, lt-ltb, eqb-true, eqb-false, not-false}
 use Rattle.lists.specs.Range.{from, any}
 use Rattle.lists.proofs.Split.{neither}
+use Rattle.lists.proofs.Found.{any-from}
 use Rattle.refusal.specs.Reply.{Test, Answers, each, passes}
 use Rattle.refusal.proofs.Replies.{passed-first, answers-passed}
-use Rattle.refusal.proofs.Order.{passed-earlier, passed-later}
+use Rattle.refusal.proofs.Order.{passed-earlier, passed-later, each-passed}
 use Rattle.colours.specs.Cache.{isColourCount}
 use Rattle.colours.specs.Sets.{isColourSet}
 use Rattle.colours.proofs.Bits.{ones-pos}
@@ -25,7 +26,6 @@ use Rattle.board.specs.Tests.{grant, sharesWithAnother, emptyOrOutside, activeS
 use Rattle.plan.specs.Rows.{core, domain, vcpuPeriod, budget, vcpuOf, taskPeriod, deadline, colourSet, costWith, cost, vcpuRows, taskRows}
 use Rattle.plan.specs.Tests.{zeroOrAbove, vcpuWordsTest, taskWordsTest, badVcpu, badCost, badTask, descends, sharesColour, planTests, planReply}
 use Rattle.plan.proofs.Parts.{Ascending}
-use Rattle.plan.proofs.Passed.{each-passed, none-passes}
 
 -- 15 and 16
 pub record Sized (reload : ℕ) (vcpus tasks : List ℕ) (room : ℕ) : Type 0 where
@@ -130,7 +130,7 @@ task-accepted b vcpus tasks j h e =
       due-high = due .1;
       some = pos-of-ne-zero (eqb-false s 0 (set .0));
       inside = eqb-true (bitAnd s g) s (not-false (eqb (bitAnd s g) s) (set .1));
-      costs = λ k l m. ranged 1000000 (costWith tasks j k) (neither (zeroOrAbove 1000000 (costWith tasks j k)) _ (none-passes (badCost tasks j) 16 1 k (r .1) l (omega arith)) .0);
+      costs = λ k l m. ranged 1000000 (costWith tasks j k) (neither (zeroOrAbove 1000000 (costWith tasks j k)) _ (any-from (badCost tasks j) 16 1 k (r .1) l (omega arith)) .0);
     }
 
 never-descends : (tasks : List ℕ) → ((j : ℕ) → j < taskRows tasks → descends tasks j ≡ false) → Ascending tasks
@@ -152,9 +152,9 @@ accepted b reload vcpus tasks room e =
     let second = passed-first (taskWordsTest vcpus tasks room) (tests-17 ++ (tests-18 ++ (tests-19 ++ tests-20))) (first .1) in
     let from-18 = passed-later tests-17 (tests-18 ++ (tests-19 ++ tests-20)) (second .1) in
     let from-19 = passed-later tests-18 (tests-19 ++ tests-20) from-18 in
-    let p-17 = each-passed (vcpuRows vcpus) 17 (badVcpu b vcpus) (passed-earlier tests-17 (tests-18 ++ (tests-19 ++ tests-20)) (second .1)) in
-    let p-18 = each-passed n 18 (badTask b vcpus tasks) (passed-earlier tests-18 (tests-19 ++ tests-20) from-18) in
-    let p-19 = each-passed n 19 (descends tasks) (passed-earlier tests-19 tests-20 from-19) in
+    let p-17 = each-passed 17 (badVcpu b vcpus) (vcpuRows vcpus) (passed-earlier tests-17 (tests-18 ++ (tests-19 ++ tests-20)) (second .1)) in
+    let p-18 = each-passed 18 (badTask b vcpus tasks) n (passed-earlier tests-18 (tests-19 ++ tests-20) from-18) in
+    let p-19 = each-passed 19 (descends tasks) n (passed-earlier tests-19 tests-20 from-19) in
     record {
       sized = sized reload vcpus tasks room (first .0) (second .0);
       vcpu = λ i h. vcpu-accepted b vcpus i h (p-17 i h);
@@ -174,7 +174,7 @@ grant-below b words e d h =
     let count = passed-first _ _ (passed-earlier (sizeTests b words) (domainTests b) e) .0 in
     let tests = passed-later (sizeTests b words) (domainTests b) e in
     let first = passed-earlier (each n 5 five) (each n 6 six) (passed-earlier (each n 5 five ++ each n 6 six) (each n 7 seven) tests) in
-    let set = not-false (isColourSet (b .colours) (grant b d)) (each-passed n 5 five first d h) in
+    let set = not-false (isColourSet (b .colours) (grant b d)) (each-passed 5 five n first d h) in
     (colour-set (b .colours) (grant b d) set .below, count-range (b .colours) (not-false (isColourCount (b .colours)) count) .1)
 
 -- the colours that a task holds and its cost

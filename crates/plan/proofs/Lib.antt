@@ -2,6 +2,4 @@
 pub mod Parts
 pub mod Joined
 pub mod Faults
-pub mod Passed
 pub mod Accepted
-pub mod PartRows

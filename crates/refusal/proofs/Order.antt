@@ -1,8 +1,8 @@
 -- The order of tests: what the tests before decide is decided, and of one test for each domain or row the lowest at fault refuses.
-use Prim.Native.Nat.{ℕ, zero, suc, _+_, _<_}
-use native.Mathlib.Nat.{le-refl, zero-add}
+use Prim.Native.Nat.{ℕ, zero, suc, _+_, _<_, _≤_}
+use native.Mathlib.Nat.{le-refl, zero-add, lt-irrefl}
 use native.Mathlib.Omega.{arith}
-use mathlib.Core.Bool.{Bool, true}
+use mathlib.Core.Bool.{Bool, true, false}
 use mathlib.Core.List.{List, [], _∷_, _++_, map}
 use mathlib.Core.Path.{_≡_, refl}
 use lib.Dec.{ltb}
@@ -10,6 +10,7 @@ use borrow.Author.Tests.{lt-ltb, le-ltb}
 use Rattle.lists.specs.Choice.{if_then_else_}
 use Rattle.lists.specs.Range.{from, keep, headOr, lowest}
 use Rattle.lists.proofs.Split.{cases}
+use Rattle.lists.proofs.Found.{from-on}
 use Rattle.refusal.specs.Reply.{Answers, Refuses, Test, each, unless, passes}
 use Rattle.refusal.proofs.Replies.{passed-first}
 
@@ -60,3 +61,35 @@ passed-earlier [] ys e = refl
 passed-earlier (t ∷ ts) ys e =
     let first = passed-first t (ts ++ ys) e in
     rw (first .0) (passed-earlier ts ys (first .1))
+
+pub passed-both : (xs ys : List Test) → passes xs ≡ true → passes ys ≡ true → passes (xs ++ ys) ≡ true
+unfolding passes
+passed-both [] ys e f = f
+passed-both (t ∷ ts) ys e f =
+    let first = passed-first t ts e in
+    rw (first .0) (passed-both ts ys (first .1) f)
+
+-- one test for each of the numbers from i on
+module _ (number : ℕ) (fails : ℕ → Bool) where
+  abbrev tests : ℕ → ℕ → List Test
+  tests i n = map (λ (r : ℕ). record { number = number; row = r; fails = fails r }) (from i n)
+
+  from-passed : (n i d : ℕ) → passes (tests i n) ≡ true → i ≤ d → d < i + n → fails d ≡ false
+  unfolding passes from
+  from-passed zero i d e l h = absurd (lt-irrefl d (omega arith))
+  from-passed (suc n) i d e l h =
+      let r = passed-first (record { number = number; row = i; fails = fails i }) (tests (suc i) n) e in
+      from-on (λ (x : ℕ). fails x ≡ false) i d l (r .0) (λ m. from-passed n (suc i) d (r .1) m (omega arith))
+
+  from-passes : (n i : ℕ) → ((d : ℕ) → i ≤ d → d < i + n → fails d ≡ false) → passes (tests i n) ≡ true
+  unfolding passes from
+  from-passes zero i f = refl
+  from-passes (suc n) i f = rw (f i (le-refl i) (omega arith)) (from-passes n (suc i) (λ d l h. f d (omega arith) (omega arith)))
+
+  pub each-passed : (n : ℕ) → passes (each n number fails) ≡ true → (d : ℕ) → d < n → fails d ≡ false
+  unfolding each
+  each-passed n e d h = from-passed n 0 d e (omega arith) (omega arith)
+
+  pub each-passes : (n : ℕ) → ((d : ℕ) → d < n → fails d ≡ false) → passes (each n number fails) ≡ true
+  unfolding each
+  each-passes n f = from-passes n 0 (λ d l h. f d (omega arith))
