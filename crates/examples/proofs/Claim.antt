@@ -2,7 +2,7 @@
 use mathlib.Core.Bool.{true}
 use mathlib.Core.Path.{_≡_, refl}
 use lib.Count.{ones, onesIn}
-use Rattle.lists.specs.Range.{from, keep}
+use Rattle.lists.specs.Range.{from, keep, lowest, lowestFrom}
 use Rattle.refusal.specs.Reply.{each, unless}
 use Rattle.board.specs.Tests.{sizeTests, domainTests, boardTests}
 use Rattle.calls.specs.Table.{framesWith, mappedTo, choices, strays}
@@ -12,10 +12,18 @@ use Rattle.isolation.specs.DomainRule.{run}
 use Rattle.colours.specs.Sets.{isColourSet, has, coloursBelow, colourAt, placeOf}
 use Rattle.colours.specs.Cache.{isColourCount, cacheReply}
 use Rattle.colours.specs.Pages.{layoutPage, layoutReply, bleachIndex, bleachReply, dropBits, equationOne}
-use Rattle.examples.specs.Example.{sameReply, sameList, numbers, holds, allHold}
+use Rattle.supply.specs.Supply.{supply}
+use Rattle.plan.specs.Rows.{cost, colours-shared}
+use Rattle.plan.specs.Part.{partStart, partEnd, partOf}
+use Rattle.plan.specs.Tests.{planTests}
+use Rattle.times.specs.First.{firstFrom, firstTime}
+use Rattle.times.specs.Need.{arrivals, need}
+use Rattle.times.specs.Times.{charge, taskNeed, timeInPart, taskTime, vcpuCharge, vcpuNeed, vcpuTime}
+use Rattle.admission.specs.Admission.{timeTests, admissionReply}
+use Rattle.examples.specs.Example.{sameReply, sameList, numbers, timeNumbers, admissionNumbers, holds, allHold}
 use Rattle.examples.specs.Table.{examples}
 
 pub claim : allHold examples ≡ true
 unfolding
-    ones onesIn from keep unless isColourSet has coloursBelow colourAt placeOf isColourCount cacheReply layoutPage layoutReply bleachIndex bleachReply dropBits equationOne each sizeTests domainTests boardTests framesWith mappedTo choices strays settle called look fault release colours pairUp moveAll recolour triples run sameReply sameList numbers holds allHold examples
+    ones onesIn from keep unless isColourSet has coloursBelow colourAt placeOf isColourCount cacheReply layoutPage layoutReply bleachIndex bleachReply dropBits equationOne each sizeTests domainTests boardTests framesWith mappedTo choices strays settle called look fault release colours pairUp moveAll recolour triples run lowest lowestFrom supply cost colours-shared partStart partEnd partOf planTests firstFrom firstTime arrivals need charge taskNeed timeInPart taskTime vcpuCharge vcpuNeed vcpuTime timeTests admissionReply sameReply sameList numbers timeNumbers admissionNumbers holds allHold examples
 claim = refl

@@ -5,12 +5,17 @@ use mathlib.Core.Bool.{Bool, true, false, _&&_}
 use mathlib.Core.List.{List, [], _∷_}
 use lib.Dec.{eqb}
 use Rattle.refusal.specs.Reply.{Reply, Answers, Refuses}
+use Rattle.board.specs.declared.Board.{Board}
 use Rattle.calls.specs.Table.{State}
 use Rattle.calls.specs.Calls.{Answer, Mapped, Unmapped, Old, New, Freed, Active, Moved, Move}
 use Rattle.calls.specs.Moves.{triples}
 use Rattle.isolation.specs.DomainRule.{Call, outcome, run}
 use Rattle.colours.specs.Cache.{cacheReply}
 use Rattle.colours.specs.Pages.{layoutReply, bleachReply, dropBits, equationOne}
+use Rattle.supply.specs.Supply.{supply}
+use Rattle.times.specs.First.{Time, At, Late}
+use Rattle.times.specs.Times.{taskTime, vcpuTime}
+use Rattle.admission.specs.Admission.{admissionReply}
 
 pub data Example : Type 0 where
   -- bytes and ways: the number of colours
@@ -28,6 +33,14 @@ pub data Example : Type 0 where
   -- a start and a history: the moves of its last call, and the table that it leaves
   Moves-of : State → List Call → Call → List Move → Example
   Table-after : State → List Call → List ℕ → Example
+  -- period, budget and t: the least supply in t
+  Supply : ℕ → ℕ → ℕ → ℕ → Example
+  -- VCPU rows and a row: its time
+  Vcpu-time : List ℕ → ℕ → Time → Example
+  -- reload, VCPU rows, task rows and a row of these: its time
+  Task-time : ℕ → List ℕ → List ℕ → ℕ → Time → Example
+  -- board, reload, VCPU rows, task rows and the length of the list of times: the reply
+  Admission : Board → ℕ → List ℕ → List ℕ → ℕ → Reply (Unit {0}) → Example
 
 unfoldable pub sameReply : Reply ℕ → Reply ℕ → Bool
 sameReply (Answers a) (Answers b) = eqb a b
@@ -53,6 +66,16 @@ numbers (Answers (Active s)) = 6 ∷ s ∷ []
 numbers (Answers (Moved n)) = 7 ∷ n ∷ []
 numbers (Refuses n r) = 0 ∷ n ∷ r ∷ []
 
+-- a time, or late, as numbers
+unfoldable pub timeNumbers : Time → List ℕ
+timeNumbers (At t) = t ∷ []
+timeNumbers Late = []
+
+-- a reply of admission as numbers: none where the plan is admitted
+unfoldable pub admissionNumbers : Reply (Unit {0}) → List ℕ
+admissionNumbers (Answers a) = []
+admissionNumbers (Refuses n r) = n ∷ r ∷ []
+
 unfoldable pub holds : Example → Bool
 holds (Cache b w r) = sameReply (cacheReply b w) r
 holds (Layout n s i r) = sameReply (layoutReply n s i) r
@@ -62,6 +85,11 @@ holds (Equation c l h b a q) = eqb (equationOne c l h b a) q
 holds (Reply-after s h c r) = sameList (numbers (outcome (run s h) c .reply)) (numbers r)
 holds (Moves-of s h c ms) = sameList (triples (outcome (run s h) c .moves)) (triples ms)
 holds (Table-after s h t) = sameList (run s h .table) t
+holds (Supply p q t x) = eqb (supply p q t) x
+holds (Vcpu-time vcpus i time) = sameList (timeNumbers (vcpuTime vcpus i)) (timeNumbers time)
+holds (Task-time reload vcpus tasks j time) = sameList (timeNumbers (taskTime reload vcpus tasks j)) (timeNumbers time)
+holds (Admission b reload vcpus tasks room r) =
+    sameList (admissionNumbers (admissionReply b reload vcpus tasks room)) (admissionNumbers r)
 
 unfoldable pub allHold : List Example → Bool
 allHold [] = true

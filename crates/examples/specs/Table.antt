@@ -1,11 +1,14 @@
--- The examples of document 01 that are marked m, in its order, and then the worked examples of document 004. Later parts add theirs.
+-- The examples of document 01 that are marked m, in its order, then the recorder's accident, the plan of the program `admit` and the
+-- worked examples of document 004. Later parts add theirs.
 use Prim.Native.Nat.{ℕ}
-use mathlib.Core.List.{List, [], _∷_}
+use mathlib.Core.List.{List, [], _∷_, _++_}
 use Rattle.refusal.specs.Reply.{Answers, Refuses}
+use Rattle.board.specs.declared.Board.{Board}
 use Rattle.calls.specs.Table.{State}
 use Rattle.calls.specs.Calls.{New, Moved}
 use Rattle.isolation.specs.DomainRule.{Call, Fault, Recolour}
-use Rattle.examples.specs.Example.{Example, Cache, Layout, Bleach, Drop, Equation, Reply-after, Moves-of, Table-after}
+use Rattle.times.specs.First.{At}
+use Rattle.examples.specs.Example.{Example, Cache, Layout, Bleach, Drop, Equation, Reply-after, Moves-of, Table-after, Supply, Vcpu-time, Task-time, Admission}
 
 abbrev pub sets : List ℕ
 sets = 0x3 ∷ 0xC ∷ 0 ∷ 0 ∷ 0 ∷ 0 ∷ 0 ∷ 0 ∷ []
@@ -24,6 +27,34 @@ three-faults = Fault 0 9 ∷ Fault 1 0 ∷ Fault 0 1 ∷ []
 abbrev pub then-recoloured : List Call
 then-recoloured = Fault 0 9 ∷ Fault 1 0 ∷ Fault 0 1 ∷ Recolour 0 0x1 (0 ∷ 0 ∷ 0 ∷ []) ∷ []
 
+abbrev pub grant : List ℕ
+grant = 0xFF ∷ 0 ∷ 0 ∷ 0 ∷ 0 ∷ 0 ∷ 0 ∷ 0 ∷ []
+
+-- the board that document 01 gives the program `admit`: N 16, F 64 and one domain with 255
+abbrev pub planned : Board
+planned = record { colours = 16; frames = 64; domains = 1; grants = grant; active = grant }
+
+-- one VCPU on core 0 in domain 0: period and budget
+abbrev pub vcpu : ℕ → ℕ → List ℕ
+vcpu p q = 0 ∷ 0 ∷ p ∷ q ∷ []
+
+-- P = Q = 10,000
+abbrev pub whole-core : List ℕ
+whole-core = vcpu 10000 10000
+
+-- a task of VCPU 0: period, deadline, set, and a cost that is the same for any count of colours
+abbrev pub task : ℕ → ℕ → ℕ → ℕ → List ℕ
+task period deadline set c =
+    0 ∷ period ∷ deadline ∷ set ∷ c ∷ c ∷ c ∷ c ∷ c ∷ c ∷ c ∷ c ∷ c ∷ c ∷ c ∷ c ∷ c ∷ c ∷ c ∷ c ∷ []
+
+-- three tasks of period and deadline 10,000, no shared colours: the third cost
+abbrev pub three-tasks : ℕ → List ℕ
+three-tasks c = task 10000 10000 0x1 4000 ++ (task 10000 10000 0x2 4000 ++ task 10000 10000 0x4 c)
+
+-- sets 0x3 and 0x6: the second cost
+abbrev pub two-tasks : ℕ → List ℕ
+two-tasks c = task 4000 4000 0x3 1000 ++ task 10000 10000 0x6 c
+
 unfoldable pub examples : List Example
 examples =
     Cache 1048576 16 (Answers 16)
@@ -40,6 +71,28 @@ examples =
     ∷ Moves-of recorder three-faults (Recolour 0 0x1 (0 ∷ 0 ∷ 0 ∷ [])) (record { page = 1; source = 1; target = 4 } ∷ [])
     ∷ Table-after recorder then-recoloured (10 ∷ 0 ∷ 4097 ∷ 0 ∷ 2 ∷ 0 ∷ 0 ∷ 0 ∷ [])
     ∷ Reply-after recorder then-recoloured (Fault 0 2) (Refuses 12 0)
+    -- P 5,000, Q 3,000, and a lone task of cost 3,000
+    ∷ Supply 5000 3000 4000 0
+    ∷ Supply 5000 3000 6999 2999
+    ∷ Supply 5000 3000 7000 3000
+    ∷ Supply 5000 3000 9000 3000
+    ∷ Admission planned 0 (vcpu 5000 3000) (task 10000 7000 0x1 3000) 2 (Answers tt)
+    ∷ Admission planned 0 (vcpu 5000 3000) (task 10000 6999 0x1 3000) 2 (Refuses 22 0)
+    -- three tasks that want 11 ms of every 10, and 10 ms of every 10
+    ∷ Admission planned 0 whole-core (three-tasks 3000) 4 (Refuses 22 2)
+    ∷ Task-time 0 whole-core (three-tasks 2000) 2 (At 10000)
+    -- the reload of a shared colour
+    ∷ Task-time 100 whole-core (two-tasks 2500) 1 (At 3600)
+    ∷ Task-time 100 whole-core (two-tasks 3000) 1 (At 5200)
+    ∷ Task-time 0 whole-core (two-tasks 3000) 1 (At 4000)
+    -- of the recorder's accident, beyond document 01: each of the three tasks that are refused together above is admitted alone
+    ∷ Admission planned 0 whole-core (task 10000 10000 0x1 4000) 2 (Answers tt)
+    ∷ Admission planned 0 whole-core (task 10000 10000 0x2 4000) 2 (Answers tt)
+    ∷ Admission planned 0 whole-core (task 10000 10000 0x4 3000) 2 (Answers tt)
+    -- document 01's plan for `admit`, which carries no m there
+    ∷ Vcpu-time whole-core 0 (At 10000)
+    ∷ Task-time 100 whole-core (two-tasks 3000) 0 (At 1000)
+    ∷ Admission planned 100 whole-core (two-tasks 3000) 3 (Answers tt)
     -- 004: the pages of [2, 3], of which 0x22 is the fifth; equation (1) with its factor mended says so
     ∷ Layout 16 0x000C 0 (Answers 0x02)
     ∷ Layout 16 0x000C 1 (Answers 0x03)

@@ -1,2 +1,2 @@
-// Document 01's examples marked m, and the worked examples of document 004: one table in
-// specs/Table.antt, and one claim that it holds in proofs/Claim.antt. There is no code here.
+// Document 01's examples marked m, the recorder's accident, the plan of `admit`, and the worked examples of document 004:
+// one table in specs/Table.antt, and one claim that it holds in proofs/Claim.antt. There is no code here.
