@@ -1,4 +1,4 @@
--- `board::domains::wrong_active` meets its contract. The invariant: the domain lowestFrom is lowestFrom from `d` on.
+-- `board::domains::wrong_active` meets its contract. The invariant: the domain sought is sought from `d` on.
 use Prim.Native.Nat.{ℕ, _-_, _≤_}
 use native.Mathlib.Omega.{arith}
 use mathlib.Core.Bool.{Bool, true, false}

@@ -1,14 +1,18 @@
 -- `frames::scan::count_strays` meets its contract. The invariant: what is counted and what is ahead make up the number.
 use Prim.Native.Nat.{ℕ, _+_, _-_, _≤_, _<_}
 use native.Mathlib.Omega.{arith}
-use mathlib.Core.Bool.{true, false}
+use mathlib.Core.Bool.{Bool, true, false, not, _&&_}
 use mathlib.Core.List.{List}
 use mathlib.Core.Logic.{⊎-elim}
-use mathlib.Core.Path.{_≡_, sym, ap, _∙_}
+use mathlib.Core.Path.{_≡_, sym, ap, ap₂, _∙_}
 use lib.ListN.{length}
+use lib.Dec.{leb}
 use borrow.Author.Needs.{needs}
 use Rattle.lists.specs.Range.{upto, keep}
 use Rattle.lists.proofs.Kept.{ahead, ahead-start, ahead-take, ahead-skip, ahead-end}
+use Rattle.colours.specs.Sets.{has}
+use Rattle.colours.specs.Cache.{colourOf}
+use Rattle.calls.specs.Table.{word}
 use Rattle.frames.specs.Scan.{strayOf}
 use Rattle.frames.proofs.scan.count_strays.Statement.{statement}
 use Rattle.frames.proofs.scan.count_strays.Tie as tie
@@ -18,6 +22,19 @@ Inv-loop table domain colours set first last n₀ f₀ n f = (f ≤ length table
 
 abbrev μ-loop : tie.MeasureT-loop
 μ-loop table domain colours set first last n₀ f₀ n f = length table - f
+
+abbrev stray : tie.Start Inv-loop μ-loop → ℕ → Bool
+stray s f = strayOf (s .args .table .now) (s .args .domain) (s .args .colours) (s .args .set) f
+
+stray-is : (c : tie.After-is-stray Inv-loop μ-loop) → c .is-stray .result ≡ stray (c .before .before .before .before .before .before .before) (c .before .before .before .loop .f)
+stray-is c =
+    let a = c .before .before .before .before .before .before .before .args in
+    let f : ℕ = c .before .before .before .loop .f in
+    let w : ℕ = word (a .table .now) f in
+    c .is-stray .ensures
+    ∙ ap₂ (λ (x y : ℕ). (leb x w && leb w y) && not (has (a .set) (colourOf (a .colours) f)))
+    (c .before .before .before .before .before .word-for .ensures)
+    (c .before .before .before .before .word-for2 .ensures)
 
 word-for-requires : tie.Need-word-for-requires Inv-loop μ-loop
 word-for-requires c κs = search needs
@@ -57,10 +74,10 @@ loop-again c =
     let l : h .f < length t = omega arith in
     ⊎-elim
     (λ w.
-    let here : strayOf t (a .domain) (a .colours) (a .set) (h .f) ≡ true = rw (← c .before .before .before .before .before .before .word-for .ensures, ← c .before .before .before .before .before .word-for2 .ensures) (sym (c .before .is-stray .ensures) ∙ w .0 .taken) in
+    let here : strayOf t (a .domain) (a .colours) (a .set) (h .f) ≡ true = sym (stray-is (c .before)) ∙ w .0 .taken in
     (omega arith, omega arith, omega (arith, h .inv .2, w .1, ap length (ahead-take (strayOf t (a .domain) (a .colours) (a .set)) (h .f) (length t) l here))))
     (λ w.
-    let here : strayOf t (a .domain) (a .colours) (a .set) (h .f) ≡ false = rw (← c .before .before .before .before .before .before .word-for .ensures, ← c .before .before .before .before .before .word-for2 .ensures) (sym (c .before .is-stray .ensures) ∙ w .0 .left) in
+    let here : strayOf t (a .domain) (a .colours) (a .set) (h .f) ≡ false = sym (stray-is (c .before)) ∙ w .0 .left in
     (omega arith, omega arith, omega (arith, h .inv .2, w .1, ap length (ahead-skip (strayOf t (a .domain) (a .colours) (a .set)) (h .f) (length t) l here))))
     (c .if1 .came)
 

@@ -1,13 +1,17 @@
--- `frames::scan::next_stray` meets its contract. The invariant: the frame lowestFrom is lowestFrom from `f` on.
+-- `frames::scan::next_stray` meets its contract. The invariant: the frame sought is sought from `f` on.
 use Prim.Native.Nat.{ℕ, _-_, _≤_}
 use native.Mathlib.Omega.{arith}
-use mathlib.Core.Bool.{true, false}
+use mathlib.Core.Bool.{Bool, true, false, not, _&&_}
 use mathlib.Core.List.{List}
-use mathlib.Core.Path.{_≡_, refl, sym, _∙_}
+use mathlib.Core.Path.{_≡_, refl, sym, ap₂, _∙_}
 use lib.ListN.{length}
+use lib.Dec.{leb}
 use borrow.Author.Needs.{needs}
 use Rattle.lists.specs.Range.{lowestFrom}
 use Rattle.lists.proofs.Sought.{sought-hit, sought-miss, sought-end}
+use Rattle.colours.specs.Sets.{has}
+use Rattle.colours.specs.Cache.{colourOf}
+use Rattle.calls.specs.Table.{word}
 use Rattle.frames.specs.Scan.{strayOf}
 use Rattle.frames.proofs.scan.next_stray.Statement.{statement}
 use Rattle.frames.proofs.scan.next_stray.Tie as tie
@@ -17,6 +21,19 @@ Inv-loop table start domain colours set first last f₀ f = (f ≤ length table)
 
 abbrev μ-loop : tie.MeasureT-loop
 μ-loop table start domain colours set first last f₀ f = length table - f
+
+abbrev stray : tie.Start Inv-loop μ-loop → ℕ → Bool
+stray s f = strayOf (s .args .table .now) (s .args .domain) (s .args .colours) (s .args .set) f
+
+stray-is : (c : tie.After-is-stray Inv-loop μ-loop) → c .is-stray .result ≡ stray (c .before .before .before .before .before .before .before) (c .before .before .before .loop .f)
+stray-is c =
+    let a = c .before .before .before .before .before .before .before .args in
+    let f : ℕ = c .before .before .before .loop .f in
+    let w : ℕ = word (a .table .now) f in
+    c .is-stray .ensures
+    ∙ ap₂ (λ (x y : ℕ). (leb x w && leb w y) && not (has (a .set) (colourOf (a .colours) f)))
+    (c .before .before .before .before .before .word-for .ensures)
+    (c .before .before .before .before .word-for2 .ensures)
 
 word-for-requires : tie.Need-word-for-requires Inv-loop μ-loop
 word-for-requires c κs = search needs
@@ -41,7 +58,7 @@ returns c =
     let a = c .before .before .before .before .before .before .before .before .args in
     let t : List ℕ = a .table .now in
     let h = c .before .before .before .before .loop in
-    let here : strayOf t (a .domain) (a .colours) (a .set) (h .f) ≡ true = rw (← c .before .before .before .before .before .before .word-for .ensures, ← c .before .before .before .before .before .word-for2 .ensures) (sym (c .before .is-stray .ensures) ∙ c .if1 .taken) in
+    let here : strayOf t (a .domain) (a .colours) (a .set) (h .f) ≡ true = sym (stray-is (c .before)) ∙ c .if1 .taken in
     sym (h .inv .1 ∙ sought-hit (strayOf t (a .domain) (a .colours) (a .set)) (h .f) (length t) (omega arith) here)
 
 add-f : tie.Need-add-f Inv-loop μ-loop
@@ -55,7 +72,7 @@ loop-again c =
     let a = c .before .before .before .before .before .before .before .before .args in
     let t : List ℕ = a .table .now in
     let h = c .before .before .before .before .loop in
-    let here : strayOf t (a .domain) (a .colours) (a .set) (h .f) ≡ false = rw (← c .before .before .before .before .before .before .word-for .ensures, ← c .before .before .before .before .before .word-for2 .ensures) (sym (c .before .is-stray .ensures) ∙ c .if1 .left) in
+    let here : strayOf t (a .domain) (a .colours) (a .set) (h .f) ≡ false = sym (stray-is (c .before)) ∙ c .if1 .left in
     (omega arith, h .inv .1 ∙ sought-miss (strayOf t (a .domain) (a .colours) (a .set)) (h .f) (length t) (omega arith) here)
 
 returns-2 : tie.Need-returns-2 Inv-loop μ-loop

@@ -1,4 +1,4 @@
--- `frames::scan::next_word` meets its contract. The invariant: the frame lowestFrom is lowestFrom from `f` on.
+-- `frames::scan::next_word` meets its contract. The invariant: the frame sought is sought from `f` on.
 use Prim.Native.Nat.{ℕ, _-_, _≤_}
 use native.Mathlib.Omega.{arith}
 use mathlib.Core.Bool.{true, false}

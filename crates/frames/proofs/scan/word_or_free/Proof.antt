@@ -1,4 +1,4 @@
--- `frames::scan::word_or_free` meets its contract. The invariant: the frame lowestFrom is lowestFrom from `f` on.
+-- `frames::scan::word_or_free` meets its contract. The invariant: the frame sought is sought from `f` on.
 use Prim.Native.Nat.{ℕ, _-_, _≤_}
 use native.Mathlib.Omega.{arith}
 use mathlib.Core.Bool.{true, false}
