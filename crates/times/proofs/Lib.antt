@@ -4,3 +4,4 @@ pub mod Needs
 pub mod Rows
 pub mod Planner
 pub mod PartRows
+pub mod Added

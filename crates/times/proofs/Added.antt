@@ -1,0 +1,140 @@
+-- Rows added at the end of the task list change no other task's time: the part of each VCPU that has a row is as it was, or has the new
+-- words after its old ones.
+use Prim.Native.Nat.{ℕ, _+_, _-_, _*_, _<_, _≤_}
+use native.Mathlib.Omega.{arith}
+use mathlib.Core.Bool.{Bool, true, false, not, true≢false}
+use mathlib.Core.List.{List, _++_}
+use mathlib.Core.Path.{_≡_, refl, sym, ap, _∙_}
+use lib.Count.{ones}
+use lib.ListN.{length, take, drop, length-append, length-drop, List·getD-append}
+use lib.Seq.{take-all, take-append-le, drop-append-le, take-append-add}
+use borrow.Author.Tests.{eq-eqb}
+use Rattle.lists.specs.Range.{lowestFrom, headOr}
+use Rattle.lists.proofs.Split.{below-or-not}
+use Rattle.lists.proofs.Kept.{ahead}
+use Rattle.lists.proofs.Sought.{sought-start, sought-hit}
+use Rattle.lists.proofs.Found.{found, missed, ahead-past}
+use Rattle.plan.specs.Rows.{vcpuOf, colourSet, taskRows}
+use Rattle.plan.specs.Part.{isRowOf, partStart, partEnd, partOf}
+use Rattle.plan.proofs.Parts.{start-le, part-length, part-word}
+use Rattle.times.specs.Times.{taskTime}
+use Rattle.times.proofs.Planner.{later-tasks-change-nothing}
+
+-- what is found is the one number that passes with none before it
+sought-is : (p : ℕ → Bool) (i n s : ℕ) → i ≤ s → s < n → p s ≡ true → ((m : ℕ) → i ≤ m → m < s → p m ≡ false) → lowestFrom p i n ≡ s
+unfolding lowestFrom ahead
+sought-is p i n s l h e none = ap (headOr n) (ahead-past p i s n l (omega arith) none) ∙ sought-hit p s n h e
+
+-- a test that agrees with another below n finds the same there, in a longer range
+sought-same : (p q : ℕ → Bool) (i n m : ℕ) → n ≤ m → ((k : ℕ) → k < n → q k ≡ p k) → lowestFrom p i n < n → lowestFrom q i m ≡ lowestFrom p i n
+sought-same p q i n m le same h =
+    let f = found p i n h in
+    sought-is q i m (lowestFrom p i n) (f .low) (omega arith) (same _ h ∙ f .passes) (λ k a b. same k (omega arith) ∙ f .before k a b)
+
+-- and where that finds nothing below n, it finds nothing there either
+sought-beyond : (p q : ℕ → Bool) (i n m : ℕ) → n ≤ m → ((k : ℕ) → k < n → q k ≡ p k) → n ≤ lowestFrom p i n → n ≤ lowestFrom q i m
+sought-beyond p q i n m le same h =
+    below-or-not (lowestFrom q i m) n
+    (λ l.
+    let f = found q i m (omega arith) in
+    absurd (true≢false (sym (f .passes) ∙ same _ l ∙ missed p i n h _ (f .low) l)))
+    (λ l. l)
+
+module _ (tasks more : List ℕ) (whole : length tasks ≡ 20 * taskRows tasks) (j : ℕ) (row : j < taskRows tasks) where
+  abbrev v : ℕ
+  v = vcpuOf tasks j
+
+  abbrev n : ℕ
+  n = taskRows tasks
+
+  abbrev all : List ℕ
+  all = tasks ++ more
+
+  abbrev own : ℕ → Bool
+  own = isRowOf tasks v
+
+  abbrev other : ℕ → Bool
+  other k = not (isRowOf tasks v k)
+
+  rows-le : n ≤ taskRows all
+  rows-le = omega (arith, length-append tasks more)
+
+  vcpu-stays : (k : ℕ) → k < n → vcpuOf all k ≡ vcpuOf tasks k
+  vcpu-stays k l = List·getD-append tasks more 0 (20 * k + 0) (omega arith)
+
+  own-stays : (k : ℕ) → k < n → isRowOf all v k ≡ own k
+  own-stays k l = rw (vcpu-stays k l)
+
+  own-here : own j ≡ true
+  own-here = eq-eqb v v refl
+
+  start-found : lowestFrom own 0 n < n
+  start-found =
+      below-or-not (lowestFrom own 0 n) n (λ l. l)
+      (λ l. absurd (true≢false (sym own-here ∙ missed own 0 n l j (omega arith) row)))
+
+  start-is : partStart tasks v ≡ lowestFrom own 0 n
+  unfolding partStart
+  start-is = sought-start own n
+
+  start-stays : partStart all v ≡ partStart tasks v
+  unfolding partStart
+  start-stays =
+      sought-start (isRowOf all v) (taskRows all)
+      ∙ sought-same own (isRowOf all v) 0 n (taskRows all) rows-le own-stays start-found
+      ∙ sym (sought-start own n)
+
+  start-low : partStart tasks v ≤ j
+  start-low =
+      rw start-is
+      (below-or-not j (lowestFrom own 0 n) (λ l. absurd (true≢false (sym own-here ∙ found own 0 n start-found .before j (omega arith) l))) (λ l. l))
+
+  other-stays : (k : ℕ) → k < n → not (isRowOf all v k) ≡ other k
+  other-stays k l = rw (own-stays k l)
+
+  abbrev rest : List ℕ
+  rest = drop (20 * partStart tasks v) tasks
+
+  rest-long : length rest ≡ 20 * n - 20 * partStart tasks v
+  rest-long = length-drop (20 * partStart tasks v) tasks ∙ ap (λ (x : ℕ). x - 20 * partStart tasks v) whole
+
+  -- the words from the VCPU's first row on
+  rest-stays : drop (20 * partStart tasks v) all ≡ rest ++ more
+  rest-stays = drop-append-le (20 * partStart tasks v) tasks more (omega (arith, start-le tasks v))
+
+  end-stays : partEnd tasks v < n → partEnd all v ≡ partEnd tasks v
+  unfolding partEnd
+  end-stays h = rw start-stays (sought-same other (λ (k : ℕ). not (isRowOf all v k)) (partStart tasks v) n (taskRows all) rows-le other-stays h)
+
+  end-beyond : n ≤ partEnd tasks v → n ≤ partEnd all v
+  unfolding partEnd
+  end-beyond h = rw start-stays (sought-beyond other (λ (k : ℕ). not (isRowOf all v k)) (partStart tasks v) n (taskRows all) rows-le other-stays h)
+
+  -- a row of another VCPU ends the part
+  part-stays : partEnd tasks v < n → partOf all v ≡ partOf tasks v
+  unfolding partOf
+  part-stays h =
+      rw (end-stays h, start-stays, rest-stays)
+      (take-append-le (20 * partEnd tasks v - 20 * partStart tasks v) rest more (omega (arith, rest-long)))
+
+  -- the part goes up to the end
+  part-grows : n ≤ partEnd tasks v → partOf all v ≡ partOf tasks v ++ take (20 * partEnd all v - 20 * n) more
+  unfolding partOf
+  part-grows h =
+      let s : ℕ = partStart tasks v in
+      let old : take (20 * partEnd tasks v - 20 * s) rest ≡ rest = take-all (20 * partEnd tasks v - 20 * s) rest (omega (arith, rest-long)) in
+      let count : 20 * partEnd all v - 20 * s ≡ length rest + (20 * partEnd all v - 20 * n) = omega (arith, rest-long, start-le tasks v, end-beyond h) in
+      rw (old, start-stays, rest-stays, count) (take-append-add rest more (20 * partEnd all v - 20 * n))
+
+  pub added-rows-change-nothing : (reload : ℕ) (vcpus : List ℕ) → ((k : ℕ) → k < n → ones (colourSet tasks k) ≤ 16)
+      → taskTime reload vcpus all j ≡ taskTime reload vcpus tasks j
+  unfolding taskTime
+  added-rows-change-nothing reload vcpus few =
+      let s : ℕ = partStart tasks v in
+      below-or-not (partEnd tasks v) n
+      (λ l. rw (vcpu-stays j row, start-stays, part-stays l))
+      (λ l.
+      let long = part-length tasks v in
+      rw (vcpu-stays j row, start-stays, part-grows l)
+      (later-tasks-change-nothing (partOf tasks v) (take (20 * partEnd all v - 20 * n) more) (j - s) (omega (arith, long, start-low)) _ _ reload
+      (λ k h. rw (part-word tasks v k 3 (omega (arith, start-low)) (omega arith)) (few (s + k) (omega (arith, start-low))))))
