@@ -1,29 +1,33 @@
 -- The lent list after admission: the times of all rows in its front where the plan is admitted, and the list as it was where it is refused.
-use Prim.Native.Nat.{ℕ, zero, suc, _+_, _≤_}
+use Prim.Native.Nat.{ℕ, _+_, _≤_}
 use native.Mathlib.Omega.{arith}
 use mathlib.Core.Bool.{Bool}
 use mathlib.Core.List.{List, _++_, map}
 use mathlib.Core.Path.{_≡_, refl, sym, ap, _∙_}
 use lib.ListN.{length, take, drop, length-append}
-use Rattle.lists.specs.Range.{from, upto, lowest}
+use Rattle.lists.specs.Range.{upto, lowest}
 use Rattle.lists.proofs.Sought.{sought-start}
 use Rattle.lists.proofs.Found.{sought-le}
+use Rattle.lists.proofs.Written.{length-table}
 use Rattle.refusal.specs.Reply.{Answers, Refuses}
 use Rattle.board.specs.declared.Board.{Board}
 use Rattle.plan.specs.Rows.{vcpuRows, taskRows}
 use Rattle.times.specs.Times.{taskTime, vcpuTime}
 use Rattle.admission.specs.Admission.{isLate, microseconds, admissionReply, vcpuTimes, taskTimes, timesAfter}
 
-length-from : (f : ℕ → ℕ) (n i : ℕ) → length (map f (from i n)) ≡ n
-unfolding from
-length-from f zero i = refl
-length-from f (suc n) i = ap suc (length-from f n (suc i))
-
 -- the search for a row that is late went to the end
 whole : (p : ℕ → Bool) (n i : ℕ) → i ≡ lowest p n → n ≤ i → i ≡ n
 whole p n i e h =
     let most : lowest p n ≤ n = rw (sought-start p n) (sought-le p 0 n (omega arith)) in
     omega (arith, e)
+
+pub length-vcpu-times : (vcpus : List ℕ) → length (vcpuTimes vcpus) ≡ vcpuRows vcpus
+unfolding vcpuTimes
+length-vcpu-times vcpus = length-table (λ (i : ℕ). microseconds (vcpuTime vcpus i)) (vcpuRows vcpus) 0
+
+pub length-task-times : (reload : ℕ) (vcpus tasks : List ℕ) → length (taskTimes reload vcpus tasks) ≡ taskRows tasks
+unfolding taskTimes
+length-task-times reload vcpus tasks = length-table (λ (j : ℕ). microseconds (taskTime reload vcpus tasks j)) (taskRows tasks) 0
 
 module _ (b : Board) (reload : ℕ) (vcpus tasks lent : List ℕ) where
   abbrev late-vcpu : ℕ → Bool
@@ -44,10 +48,8 @@ module _ (b : Board) (reload : ℕ) (vcpus tasks lent : List ℕ) where
   refused n r e = (sym e, rw e)
 
   length-times : length (vcpuTimes vcpus ++ taskTimes reload vcpus tasks) ≡ vcpuRows vcpus + taskRows tasks
-  unfolding vcpuTimes taskTimes
   length-times =
-      length-append (map vcpu-time (upto (vcpuRows vcpus))) (map task-time (upto (taskRows tasks)))
-      ∙ rw (length-from vcpu-time (vcpuRows vcpus) 0, length-from task-time (taskRows tasks) 0)
+      length-append (vcpuTimes vcpus) (taskTimes reload vcpus tasks) ∙ rw (length-vcpu-times vcpus, length-task-times reload vcpus tasks)
 
   pub admitted : (i j : ℕ) (known found : List ℕ)
       → admissionReply b reload vcpus tasks (length lent) ≡ Answers tt

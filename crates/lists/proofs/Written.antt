@@ -19,7 +19,19 @@ write-suc (x ∷ xs) (y ∷ d) (suc i) l h = ap (λ (t : List ℕ). x ∷ t) (wr
 pub write-next : (xs d : List ℕ) (i : ℕ) → i < length xs → i < length d → set (take i xs ++ drop i d) i (getD xs i 0) ≡ take (i + 1) xs ++ drop (i + 1) d
 write-next xs d i l h = rw (add-one i) (write-suc xs d i l h)
 
--- a table of the first n numbers
+-- a table of the n numbers from i on: its length, and its entries
+pub length-table : (f : ℕ → ℕ) (n i : ℕ) → length (map f (from i n)) ≡ n
+unfolding from
+length-table f zero i = refl
+length-table f (suc n) i = ap suc (length-table f n (suc i))
+
+pub table-entry : (f : ℕ → ℕ) (n i k : ℕ) → k < n → getD (map f (from i n)) k 0 ≡ f (i + k)
+unfolding from
+table-entry f zero i k h = absurd (not-suc-le-zero h)
+table-entry f (suc n) i zero h = ap f (omega arith)
+table-entry f (suc n) i (suc k) h = table-entry f n (suc i) k (le-of-suc-le-suc h) ∙ ap f (omega arith)
+
+-- one entry more
 map-from : (f : ℕ → ℕ) (n i : ℕ) → map f (from i (suc n)) ≡ map f (from i n) ++ (f (i + n) ∷ [])
 unfolding from
 map-from f zero i = rw (add-zero i)

@@ -1,0 +1,98 @@
+-- `report::text::write_lines` meets its contract: the lines left, written from here on, give what all of them give.
+use Prim.Native.Nat.{ℕ, _+_, _-_, _*_, _<_, _≤_}
+use native.Mathlib.Omega.{arith}
+use mathlib.Core.List.{List}
+use mathlib.Core.Path.{_≡_, refl, sym, ap, _∙_}
+use lib.ListN.{length, drop, getD, length-append}
+use lib.Seq.{sets}
+use borrow.Author.Needs.{needs}
+use Rattle.report.specs.Text.{line, linesFrom}
+use Rattle.report.proofs.Decimal.{decimal-length}
+use Rattle.report.proofs.Lines.{sets-append, lines-next, lines-end}
+use Rattle.report.proofs.text.write_lines.Statement.{statement}
+use Rattle.report.proofs.text.write_lines.Tie as tie
+
+abbrev Inv-loop : tie.InvT-loop
+Inv-loop text₀ at name times end₀ row₀ text end row =
+    (row ≤ length times) × (length text ≡ length text₀) × (end ≤ at + 19 * row)
+    × (at + length (linesFrom name 0 times) ≡ end + length (linesFrom name row (drop row times)))
+    × (sets text₀ at (linesFrom name 0 times) ≡ sets text end (linesFrom name row (drop row times)))
+
+abbrev μ-loop : tie.MeasureT-loop
+μ-loop text₀ at name times end₀ row₀ text end row = length times - row
+
+loop-holds : tie.Need-loop-holds Inv-loop μ-loop
+loop-holds c = (omega arith, refl, omega arith, refl, refl)
+
+cast-loop : tie.Need-cast-loop Inv-loop μ-loop
+cast-loop c = search needs
+
+cast-write-line : tie.Need-cast-write-line Inv-loop μ-loop
+cast-write-line c = search needs
+
+mul-write-line : tie.Need-mul-write-line Inv-loop μ-loop
+mul-write-line c = search needs
+
+shared-slice-read-write-line : tie.Need-shared-slice-read-write-line Inv-loop μ-loop
+shared-slice-read-write-line c = search needs
+
+write-line-requires : tie.Need-write-line-requires Inv-loop μ-loop
+write-line-requires c κs =
+    let s = c .before .before .before .before .before .before .before in
+    let h = c .before .before .before .loop in
+    omega (arith, s .pre, h .inv .1, h .inv .2)
+
+add-row : tie.Need-add-row Inv-loop μ-loop
+add-row c = search needs
+
+loop-less : tie.Need-loop-less Inv-loop μ-loop
+loop-less c = search needs
+
+loop-again : tie.Need-loop-again Inv-loop μ-loop
+loop-again c =
+    let s = c .before .before .before .before .before .before .before .before .before .before in
+    let h = c .before .before .before .before .before .before .loop in
+    let w = c .before .before .write-line in
+    let name : List ℕ = s .args .name .now in
+    let times : List ℕ = s .args .times .now in
+    let here : h .row < length times = omega arith in
+    let more = lines-next name times (h .row) here in
+    let rest : List ℕ = linesFrom name (h .row + 1) (drop (h .row + 1) times) in
+    let this : List ℕ = line name (h .row) (getD times (h .row) 0) in
+    let long : length (linesFrom name (h .row) (drop (h .row) times)) ≡ length this + length rest = ap (λ (l : List ℕ). length l) more ∙ length-append this rest in (
+      omega arith,
+      w .kept .0 ∙ h .inv .1,
+      omega (arith, s .pre, h .inv .2, w .ensures .0, decimal-length 1 (h .row) (omega (arith, s .pre))),
+      omega (arith, h .inv .3, w .ensures .0 .0),
+      h .inv .4 ∙ ap (λ (l : List ℕ). sets (h .text) (h .end) l) more ∙ sym (sets-append this rest (h .text) (h .end) (w .result) (w .ensures .0 .0))
+          ∙ ap (λ (l : List ℕ). sets l (w .result) rest) (sym (w .ensures .1)),
+    )
+
+same-length : tie.Need-same-length Inv-loop μ-loop
+same-length c = search needs
+
+returns : tie.Need-returns Inv-loop μ-loop
+returns c =
+    let s = c .before .before .before .before .before in
+    let h = c .before .loop in
+    let none = lines-end (s .args .name .now) (s .args .times .now) (h .row) (omega arith) in
+    let last : length (linesFrom (s .args .name .now) (h .row) (drop (h .row) (s .args .times .now))) ≡ 0 = ap (λ (l : List ℕ). length l) none in
+    ((omega (arith, h .inv .3), omega (arith, h .inv .2)), sym (h .inv .4 ∙ ap (λ (l : List ℕ). sets (h .text) (h .end) l) none))
+
+pub write-lines-spec : {M : Type 1} → statement M
+write-lines-spec =
+    tie.close
+    (tie.spec
+    Inv-loop
+    μ-loop
+    loop-holds
+    cast-loop
+    cast-write-line
+    mul-write-line
+    shared-slice-read-write-line
+    write-line-requires
+    add-row
+    loop-less
+    loop-again
+    same-length
+    returns)

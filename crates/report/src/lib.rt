@@ -1,0 +1,127 @@
+// The program `admit` from the bytes of its input to the bytes of its output: document 01, "Examples from
+// the recorder", and refusal 1. `report` answers a whole input; `plan_extent` says how many words the plan in
+// front of an input takes, for callers that read several in a row.
+mod input;
+mod text;
+
+ghost use mathlib.Core.Path.{_≡_};
+ghost use Prim.Native.Nat.{_≤_};
+ghost use mathlib.Core.Bool.{false, _||_};
+ghost use lib.Dec.{ltb};
+ghost use lib.ListN.{length};
+ghost use Rattle.admission.specs.Paper.{paperAdmission};
+ghost use Rattle.report.specs.Paper.{paperExtent};
+ghost use Rattle.report.specs.Report.{extentReply, notAPlan, verdict, wordsTaken, textOf};
+ghost use Rattle.report.specs.Text.{over};
+use crate::input::count_rows;
+use crate::input::judge;
+use crate::text::write_admitted;
+use crate::text::write_refused;
+use admission::Admission;
+use refusal::Refusal;
+
+const MOST_DOMAINS: usize = 8;
+
+const MOST_VCPUS: usize = 16;
+
+const MOST_TASKS: usize = 32;
+
+pub enum Extent {
+    Words(u32),
+    Refused(Refusal),
+}
+
+// The verdict, how many words of the input the plan took, and how many bytes the text has.
+pub struct Reported {
+    pub verdict: Admission,
+    pub words: u32,
+    pub length: usize,
+}
+
+fn over_limit(domains: usize, vcpus: usize, tasks: usize) -> bool
+    ensures { λ r. ⌜ r ≡ ltb 8 domains || ltb 16 vcpus || ltb 32 tasks ⌝ }
+{
+    if MOST_DOMAINS < domains {
+        return true;
+    }
+    if MOST_VCPUS < vcpus {
+        return true;
+    }
+    MOST_TASKS < tasks
+}
+
+// How many words the plan in front of the input takes. The input may go on after it.
+pub fn plan_extent(input: &[u8]) -> Extent
+    ensures { λ r. ⌜ paperExtent r ≡ extentReply (now (input .entry)) ⌝ }
+{
+    let rows = count_rows(input);
+    let domains = rows.domains;
+    let vcpus = rows.vcpus;
+    let tasks = rows.tasks;
+    if over_limit(domains, vcpus, tasks) {
+        return Extent::Refused(Refusal { number: 1, row: 0 });
+    }
+    let words = 6 + domains + 4 * vcpus + 20 * tasks;
+    if input.len() < 4 * words {
+        return Extent::Refused(Refusal { number: 1, row: 0 });
+    }
+    Extent::Words(words as u32)
+}
+
+// The answer to a whole input. The text stands in front of the lent bytes, and the rest of them is as it
+// was.
+pub fn report(input: &[u8], text: &mut [u8; 1024]) -> Reported
+    ensures { λ r. ⌜ paperAdmission (r .verdict) ≡ verdict (now (input .entry)) ⌝ }
+    ensures { λ r. ⌜ (r .words ≡ wordsTaken (now (input .entry))) × (r .length ≡ length (textOf (now (input .entry)))) × (r .length ≤ length (now (text .exit))) ⌝ }
+    ensures { λ r. ⌜ now (text .exit) ≡ over (textOf (now (input .entry))) (now (text .entry)) ⌝ }
+{
+    let words = whole_plan(input);
+    if words == 0 {
+        return Reported {
+            verdict: Admission::Refused(Refusal { number: 1, row: 0 }),
+            words,
+            length: write_refused(text, 1, 0),
+        };
+    }
+    report_plan(input, words, text)
+}
+
+// How many words an input has that is one plan and nothing else, or 0.
+fn whole_plan(input: &[u8]) -> u32
+    ensures { λ r. ⌜ r ≡ wordsTaken (now (input .entry)) ⌝ }
+{
+    let Extent::Words(words) = plan_extent(input) else {
+        return 0;
+    };
+    if input.len() == 4 * words as usize {
+        words
+    } else {
+        0
+    }
+}
+
+fn no_times() -> [u32; 48]
+    ensures { λ r. ⌜ 48 ≡ length r ⌝ }
+{
+    [0; 48]
+}
+
+fn report_plan(input: &[u8], words: u32, text: &mut [u8]) -> Reported
+    requires { ⌜ (notAPlan (now input) ≡ false) × (words ≡ wordsTaken (now input)) × (1024 ≡ length (now text)) ⌝ }
+    ensures { λ r. ⌜ paperAdmission (r .verdict) ≡ verdict (now (input .entry)) ⌝ }
+    ensures { λ r. ⌜ (r .words ≡ wordsTaken (now (input .entry))) × (r .length ≡ length (textOf (now (input .entry)))) × (r .length ≤ length (now (text .exit))) ⌝ }
+    ensures { λ r. ⌜ now (text .exit) ≡ over (textOf (now (input .entry))) (now (text .entry)) ⌝ }
+{
+    let rows = count_rows(input);
+    let mut times = no_times();
+    let verdict = judge(input, rows, &mut times);
+    let length = match verdict {
+        Admission::Admitted => write_admitted(text, &times, rows.vcpus, rows.tasks),
+        Admission::Refused(refusal) => write_refused(text, refusal.number, refusal.row),
+    };
+    Reported {
+        verdict,
+        words,
+        length,
+    }
+}
