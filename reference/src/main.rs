@@ -1,7 +1,8 @@
 //! The separate tool: the recorder's rules written anew from the papers, without a look at the proved
-//! code. It writes the vectors that the programs `vectors_*` answer, or checks those in the tree; and it
-//! runs random histories of the five calls against the domain rule.
+//! code. It writes the vectors that the programs `vectors_*` answer, or checks those in the tree; it runs
+//! random histories of the five calls against the domain rule; and it answers as the program `admit` does.
 
+mod admit;
 mod boards;
 mod cache;
 mod frames;
@@ -12,14 +13,17 @@ mod random_plans;
 mod reply;
 mod vectors;
 
+use std::io::{self, Read, Write};
 use std::path::Path;
 use std::process::ExitCode;
 
 const USAGE: &str =
     "usage: reference write DIR [SEED] | reference check DIR | reference histories [SEED]
+       reference admit
   write      writes DIR/vectors_*/stdin and stdout; another seed gives other random cases
   check      says whether those files are what `write` would write today
-  histories  runs random histories of the frame calls and says whether the domain rule holds of them";
+  histories  runs random histories of the frame calls and says whether the domain rule holds of them
+  admit      reads a plan from standard input and prints what the program `admit` prints";
 
 /// The seed of the vectors in the tree.
 const SEED: u64 = 2003;
@@ -36,6 +40,7 @@ fn main() -> ExitCode {
         ["check", dir] => Some(check(dir)),
         ["histories"] => Some(histories(SEED)),
         ["histories", seed] => seed.parse().ok().map(histories),
+        ["admit"] => Some(admit()),
         _ => None,
     };
     match good {
@@ -70,4 +75,11 @@ fn histories(seed: u64) -> bool {
     let tally = history::check(seed, PAIRS);
     tally.report();
     tally.good()
+}
+
+fn admit() -> bool {
+    let mut input = Vec::new();
+    let read = io::stdin().lock().read_to_end(&mut input);
+    let verdict = admit::judge(&input).to_string();
+    read.is_ok() && io::stdout().write_all(verdict.as_bytes()).is_ok()
 }
