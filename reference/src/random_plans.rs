@@ -355,3 +355,45 @@ fn spoil_task_time(random: &mut Random, plan: &mut Plan, row: usize) -> bool {
     words[DEADLINE] = time - 1;
     true
 }
+
+/// An admitted plan with all its times multiplied, so that the longest period comes near its limit. Each
+/// row's time is multiplied too.
+pub fn stretched(mut plan: Plan) -> Plan {
+    let of_vcpus = plan.vcpus.chunks_exact(VCPU_WORDS).map(|v| v[VCPU_PERIOD]);
+    let of_tasks = plan.tasks.chunks_exact(TASK_WORDS).map(|t| t[PERIOD]);
+    let factor = of_vcpus.chain(of_tasks).max().map_or(1, |p| LONGEST / p);
+    // a lower reload makes no time later
+    plan.reload = plan.reload.min(RELOAD / factor) * factor;
+    for row in plan.vcpus.chunks_exact_mut(VCPU_WORDS) {
+        row[VCPU_PERIOD] *= factor;
+        row[VCPU_BUDGET] *= factor;
+    }
+    for row in plan.tasks.chunks_exact_mut(TASK_WORDS) {
+        row[PERIOD] *= factor;
+        row[DEADLINE] *= factor;
+        // only costs for fewer colours than are held reach the limit
+        for cost in &mut row[COSTS..] {
+            *cost = cost.saturating_mul(factor).min(LONGEST);
+        }
+    }
+    plan
+}
+
+#[cfg(test)]
+mod tests {
+    use super::*;
+
+    #[test]
+    fn stretched_plans_are_admitted() {
+        let mut random = Random::new(1);
+        for _ in 0..12 {
+            let mut plan = admitted(&mut random, 2, 3);
+            plan.reload = 0;
+            let times = plan.times(5).unwrap();
+            let long = stretched(plan.clone());
+            let factor = long.vcpus[VCPU_PERIOD] / plan.vcpus[VCPU_PERIOD];
+            let expected = times.iter().map(|time| time * factor).collect();
+            assert_eq!(long.times(5), Ok(expected));
+        }
+    }
+}
