@@ -25,6 +25,15 @@ pub fn set(seed: u64) -> Set {
     for (number, rows) in ROWS {
         set.want_rows("admit", number, rows);
     }
+    let cases = inputs(seed);
+    put(&mut set, cases.len());
+    for case in &cases {
+        add(&mut set, case);
+    }
+    set
+}
+
+pub fn inputs(seed: u64) -> Vec<Vec<u8>> {
     let mut random = Random::new(seed);
     let mut cases = examples();
     cases.extend(shapes(&mut random));
@@ -39,11 +48,7 @@ pub fn set(seed: u64) -> Set {
     cases.extend(two_faults());
     cases.extend(long_inputs(&mut random));
     cases.extend((0..ANY).map(|_| any_input(&mut random)));
-    put(&mut set, cases.len());
-    for case in &cases {
-        add(&mut set, case);
-    }
-    set
+    cases
 }
 
 /// The refusals that name a domain or row, and those that they can name: of two that share a colour the

@@ -11,6 +11,8 @@ use std::fs;
 use std::ops::Range;
 use std::path::{Path, PathBuf};
 
+pub use admit::inputs as admit_inputs;
+
 use crate::frames::Board;
 use crate::reply::Reply;
 
