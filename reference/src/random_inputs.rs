@@ -1,4 +1,4 @@
-//! Random inputs of the program `admit`, whole and broken, for the comparison with the proved program.
+//! Random inputs of the program `admit`, whole and broken, for the comparison with a compiled one.
 //! The faults are those of document 01, "Refusals in the order tested".
 
 use crate::boards::spoil;
@@ -214,7 +214,7 @@ fn lengthened(random: &mut Random, plan: &Plan) -> Vec<u8> {
 }
 
 /// Bytes of any kind, or words of any kind whose counts the length fits.
-fn rubbish(random: &mut Random) -> Vec<u8> {
+pub fn rubbish(random: &mut Random) -> Vec<u8> {
     let length = random.pick(&[4, 8, 40, 200, 3000]);
     let length = random.below(length) as usize;
     match random.below(4) {

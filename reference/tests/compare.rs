@@ -42,16 +42,14 @@ fn the_tool_and_programs_that_spoil_its_answers() {
     let same = script("same", "exec admit");
     let spoilt = [
         script("first_read", "dd bs=65536 count=1 2>/dev/null | admit"),
-        script("first_bytes", "head -c 2872 | admit"),
         script("late_rows", "admit | sed 's/^refused 22 .*/refused 22 0/'"),
-        script("more_printed", "admit; echo"),
         script("failure", "admit; exit 1"),
     ];
-    let (printed, good) = compare(&same, "300");
-    assert_eq!((differences(&printed, 300), good), (0, true), "{printed}");
+    let (printed, good) = compare(&same, "200");
+    assert_eq!((differences(&printed, 200), good), (0, true), "{printed}");
     for program in spoilt {
-        let (printed, good) = compare(&program, "300");
-        assert!(differences(&printed, 300) > 0, "{}", program.display());
+        let (printed, good) = compare(&program, "200");
+        assert!(differences(&printed, 200) > 0, "{}", program.display());
         assert!(printed.contains("expected:\n"));
         assert!(!good);
     }

@@ -12,7 +12,7 @@ use crate::inputs::{
 };
 use crate::plans::{Plan, LONGEST, RELOAD, TASKS, TASK_WORDS, VCPUS, VCPU_WORDS};
 use crate::random::Random;
-use crate::random_inputs::any_input;
+use crate::random_inputs::{any_input, rubbish};
 use crate::random_plans::{
     admitted, largest, spoil_row, stretched, task_row, vcpu_row, COLOUR_SET, COSTS, DEADLINE,
     PERIOD, VCPU_BUDGET, VCPU_PERIOD,
@@ -47,6 +47,7 @@ pub fn inputs(seed: u64) -> Vec<Vec<u8>> {
     cases.extend(spoilt_rows(&mut random));
     cases.extend(two_faults());
     cases.extend(long_inputs(&mut random));
+    cases.extend((0..ANY).map(|_| rubbish(&mut random)));
     cases.extend((0..ANY).map(|_| any_input(&mut random)));
     cases
 }
@@ -64,8 +65,8 @@ const ROWS: [(u32, std::ops::Range<u32>); 8] = [
     (22, 0..32),
 ];
 
-/// Inputs as the comparison with the proved program draws them.
-const ANY: usize = 40;
+/// Inputs of any kind, and as many more that are no plan's: drawn as for the comparison.
+const ANY: usize = 20;
 
 fn add(set: &mut Set, case: &[u8]) {
     put(set, case.len());
@@ -275,6 +276,16 @@ fn over_the_limits() -> Vec<Vec<u8>> {
         (0, 0, 33),
     ] {
         let words = sized(&example(), domains, vcpus, tasks);
+        cases.push(refused(bytes(&words), 1, 0));
+    }
+    // N, F or L is at fault too, but 1 comes before all
+    for (place, word, domains, vcpus, tasks) in [
+        (0, 3, 9, 1, 2),
+        (1, 0, 1, 17, 2),
+        (GRANTS + 1, RELOAD + 1, 1, 1, 33),
+    ] {
+        let mut words = sized(&example(), domains, vcpus, tasks);
+        words[place] = word;
         cases.push(refused(bytes(&words), 1, 0));
     }
     let at_limit = sized(&example(), 8, 16, 32);
