@@ -1,31 +1,47 @@
 //! The separate tool: the recorder's rules written anew from the papers, without a look at the proved
-//! code. It writes the vectors that the programs `vectors_*` answer, or checks those in the tree; and it
-//! runs random histories of the five calls against the domain rule.
+//! code. It writes the vectors that the programs `vectors_*` answer, or checks those in the tree; it runs
+//! random histories of the five calls against the domain rule; and it answers as the program `admit` does,
+//! and compares that program with itself.
 
+mod admit;
 mod boards;
 mod cache;
+mod compare;
 mod frames;
 mod history;
+mod inputs;
+mod pipe;
 mod plans;
 mod random;
+mod random_inputs;
 mod random_plans;
 mod reply;
 mod vectors;
 
+use std::io::{self, Read, Write};
 use std::path::Path;
 use std::process::ExitCode;
+use std::time::Duration;
 
 const USAGE: &str =
     "usage: reference write DIR [SEED] | reference check DIR | reference histories [SEED]
+       reference admit | reference compare [PROGRAM [CASES [SEED]]]
   write      writes DIR/vectors_*/stdin and stdout; another seed gives other random cases
   check      says whether those files are what `write` would write today
-  histories  runs random histories of the frame calls and says whether the domain rule holds of them";
+  histories  runs random histories of the frame calls and says whether the domain rule holds of them
+  admit      reads a plan from standard input and prints what the program `admit` prints
+  compare    runs a compiled `admit` (target/bin/admit) on random inputs (4000) and says where it differs";
 
 /// The seed of the vectors in the tree.
 const SEED: u64 = 2003;
 
 /// Pairs of histories that `histories` compares.
 const PAIRS: u32 = 10_000;
+
+/// What `compare` runs, on how many inputs, and how long it waits for each.
+const PROGRAM: &str = "target/bin/admit";
+const CASES: u32 = 4000;
+const LIMIT: Duration = Duration::from_secs(20);
 
 fn main() -> ExitCode {
     let words: Vec<String> = std::env::args().skip(1).collect();
@@ -36,6 +52,8 @@ fn main() -> ExitCode {
         ["check", dir] => Some(check(dir)),
         ["histories"] => Some(histories(SEED)),
         ["histories", seed] => seed.parse().ok().map(histories),
+        ["admit"] => Some(admit()),
+        ["compare", rest @ ..] => compare(rest),
         _ => None,
     };
     match good {
@@ -70,4 +88,35 @@ fn histories(seed: u64) -> bool {
     let tally = history::check(seed, PAIRS);
     tally.report();
     tally.good()
+}
+
+fn admit() -> bool {
+    let mut input = Vec::new();
+    let read = io::stdin().lock().read_to_end(&mut input);
+    let verdict = admit::judge(&input).to_string();
+    read.is_ok() && io::stdout().write_all(verdict.as_bytes()).is_ok()
+}
+
+/// None where the words are not a program, a count of cases above 0 and a seed, as far as they are given.
+fn compare(words: &[&str]) -> Option<bool> {
+    let (program, cases, seed) = match words {
+        [] => (PROGRAM, CASES, SEED),
+        [program] => (*program, CASES, SEED),
+        [program, cases] => (*program, cases.parse().ok()?, SEED),
+        [program, cases, seed] => (*program, cases.parse().ok()?, seed.parse().ok()?),
+        _ => return None,
+    };
+    if cases == 0 {
+        return None;
+    }
+    match compare::compare(&[program], cases, seed, LIMIT) {
+        Ok(tally) => {
+            tally.report();
+            Some(tally.differences == 0)
+        }
+        Err(error) => {
+            eprintln!("{program}: {error}");
+            Some(false)
+        }
+    }
 }

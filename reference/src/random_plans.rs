@@ -3,10 +3,10 @@
 
 use crate::boards::{accepted, part_of};
 use crate::cache::colours;
-use crate::frames::{unfit, Board};
+use crate::frames::{unfit, Board, DOMAINS, FRAMES};
 use crate::plans::{
-    part, task_time, tasks, vcpu_time, vcpus, Plan, Vcpu, CORES, LONGEST, RELOAD, TASK_WORDS,
-    VCPU_WORDS,
+    part, task_time, tasks, vcpu_time, vcpus, Plan, Vcpu, CORES, LONGEST, RELOAD, TASKS,
+    TASK_WORDS, VCPUS, VCPU_WORDS,
 };
 use crate::random::Random;
 
@@ -19,22 +19,42 @@ pub const VCPU_BUDGET: usize = 3;
 
 /// A plan of that many VCPUs and task rows in which each has a time.
 pub fn admitted(random: &mut Random, vcpu_count: usize, task_count: usize) -> Plan {
+    first_admitted(random, vcpu_count, task_count, any_board)
+}
+
+/// An admitted plan with as many domains, VCPUs and tasks as there may be.
+pub fn largest(random: &mut Random) -> Plan {
+    first_admitted(random, VCPUS, TASKS, |random| {
+        accepted(random, 16, FRAMES, DOMAINS as u32)
+    })
+}
+
+fn first_admitted(
+    random: &mut Random,
+    vcpu_count: usize,
+    task_count: usize,
+    board: impl Fn(&mut Random) -> Board,
+) -> Plan {
     // a draw may leave a row without a time, whatever its cost
     for _ in 0..1000 {
-        if let Some(plan) = draw(random, vcpu_count, task_count) {
+        let board = board(random);
+        if let Some(plan) = draw(random, board, vcpu_count, task_count) {
             return plan;
         }
     }
     panic!("no draw of {vcpu_count} VCPUs and {task_count} tasks is admitted");
 }
 
-fn draw(random: &mut Random, vcpu_count: usize, task_count: usize) -> Option<Plan> {
+fn any_board(random: &mut Random) -> Board {
     let n = random.pick(&[1, 2, 4, 8, 16, 16, 16]);
     let domains = 1 + random.below(n.min(8)) as u32;
     let frames = 1 + random.below(4096) as u32;
     let frames = random.pick(&[1, 64, 4096, frames, frames]);
-    let board = accepted(random, n as u32, frames, domains);
-    let rows = any_vcpus(random, domains, vcpu_count, task_count);
+    accepted(random, n as u32, frames, domains)
+}
+
+fn draw(random: &mut Random, board: Board, vcpu_count: usize, task_count: usize) -> Option<Plan> {
+    let rows = any_vcpus(random, board.domains, vcpu_count, task_count);
     let sets = own_colours(random, &board, &rows);
     let holders: Vec<usize> = (0..vcpu_count).filter(|row| sets[*row] != 0).collect();
     let mut names: Vec<usize> = (0..task_count).map(|_| random.pick(&holders)).collect();
@@ -334,4 +354,46 @@ fn spoil_task_time(random: &mut Random, plan: &mut Plan, row: usize) -> bool {
     }
     words[DEADLINE] = time - 1;
     true
+}
+
+/// An admitted plan with all its times multiplied, so that the longest period comes near its limit. Each
+/// row's time is multiplied too.
+pub fn stretched(mut plan: Plan) -> Plan {
+    let of_vcpus = plan.vcpus.chunks_exact(VCPU_WORDS).map(|v| v[VCPU_PERIOD]);
+    let of_tasks = plan.tasks.chunks_exact(TASK_WORDS).map(|t| t[PERIOD]);
+    let factor = of_vcpus.chain(of_tasks).max().map_or(1, |p| LONGEST / p);
+    // a lower reload makes no time later
+    plan.reload = plan.reload.min(RELOAD / factor) * factor;
+    for row in plan.vcpus.chunks_exact_mut(VCPU_WORDS) {
+        row[VCPU_PERIOD] *= factor;
+        row[VCPU_BUDGET] *= factor;
+    }
+    for row in plan.tasks.chunks_exact_mut(TASK_WORDS) {
+        row[PERIOD] *= factor;
+        row[DEADLINE] *= factor;
+        // only costs for fewer colours than are held reach the limit
+        for cost in &mut row[COSTS..] {
+            *cost = cost.saturating_mul(factor).min(LONGEST);
+        }
+    }
+    plan
+}
+
+#[cfg(test)]
+mod tests {
+    use super::*;
+
+    #[test]
+    fn stretched_plans_are_admitted() {
+        let mut random = Random::new(1);
+        for _ in 0..12 {
+            let mut plan = admitted(&mut random, 2, 3);
+            plan.reload = 0;
+            let times = plan.times(5).unwrap();
+            let long = stretched(plan.clone());
+            let factor = long.vcpus[VCPU_PERIOD] / plan.vcpus[VCPU_PERIOD];
+            let expected = times.iter().map(|time| time * factor).collect();
+            assert_eq!(long.times(5), Ok(expected));
+        }
+    }
 }

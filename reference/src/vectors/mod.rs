@@ -1,6 +1,7 @@
 //! Vectors: the input of a program `vectors_*` and what it must write. Each set reports how often each
 //! refusal occurs, and fails where one that its operations can give never does, or never with some row.
 
+mod admit;
 mod colours;
 mod frames;
 mod plans;
@@ -9,6 +10,8 @@ use std::collections::BTreeMap;
 use std::fs;
 use std::ops::Range;
 use std::path::{Path, PathBuf};
+
+pub use admit::inputs as admit_inputs;
 
 use crate::frames::Board;
 use crate::reply::Reply;
@@ -25,7 +28,12 @@ pub struct Set {
 }
 
 pub fn all(seed: u64) -> Vec<Set> {
-    vec![colours::set(seed), frames::set(seed), plans::set(seed)]
+    vec![
+        colours::set(seed),
+        frames::set(seed),
+        plans::set(seed),
+        admit::set(seed),
+    ]
 }
 
 fn hash(words: impl IntoIterator<Item = u32>) -> u32 {
@@ -75,14 +83,19 @@ impl Set {
         self.stdout.push(b'\n');
     }
 
+    /// Counts a case with its refusal, or 0 and row 0 for an answer.
+    fn count(&mut self, operation: &'static str, number: u32, row: u32) {
+        self.cases += 1;
+        *self.seen.entry((operation, number, row)).or_default() += 1;
+    }
+
     /// Counts a case, and writes the line of its reply.
     fn reply<A: std::fmt::Display>(&mut self, operation: &'static str, reply: Reply<A>) {
-        self.cases += 1;
         let (number, row, text) = match reply {
             Reply::Answer(a) => (0, 0, a.to_string()),
             Reply::Refused { number, row } => (number, row, format!("refused {number} {row}")),
         };
-        *self.seen.entry((operation, number, row)).or_default() += 1;
+        self.count(operation, number, row);
         self.line(&text);
     }
 

@@ -124,7 +124,7 @@ fn add(set: &mut Set, case: &Case) {
 
 /// One domain with all the given colours of 16, and one VCPU of core and domain 0; the rows are period,
 /// deadline, colour set and one cost for any number of colours.
-fn lone_vcpu(grant: u32, reload: u32, supplied: [u32; 2], rows: &[[u32; 4]]) -> Plan {
+pub fn lone_vcpu(grant: u32, reload: u32, supplied: [u32; 2], rows: &[[u32; 4]]) -> Plan {
     let mut grants = [0; DOMAINS];
     grants[0] = grant;
     let mut tasks = Vec::new();
