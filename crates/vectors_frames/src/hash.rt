@@ -1,15 +1,8 @@
-// The hash by which lists of words are compared: h becomes (16,777,619 h + word) modulo 2^32 at each
-// word, from 0 on.
+// The hash by which lists of words are compared, from 0 on.
 ghost use Prim.Native.Nat.{_+_, _*_, _<_, _≤_};
 ghost use lib.ListN.{length};
 use board::Board;
-
-pub fn step(h: u64, word: u32) -> u64
-    requires { ⌜ h < 4294967296 ⌝ }
-    ensures { λ r. ⌜ r < 4294967296 ⌝ }
-{
-    (h * 16777619 + word as u64) % 4294967296
-}
+use vectors_input::hash_step;
 
 fn wide(word: u16) -> u32 {
     word as u32
@@ -21,7 +14,7 @@ pub fn words(list: &[u16]) -> u64
     let mut h = 0;
     let mut i = 0;
     while i < list.len() {
-        h = step(h, wide(list[i]));
+        h = hash_step(h, wide(list[i]));
         i += 1;
     }
     h
@@ -34,14 +27,14 @@ fn eight(first: u64, list: [u32; 8]) -> u64
     let mut h = first;
     let mut i = 0;
     while i < 8 {
-        h = step(h, list[i]);
+        h = hash_step(h, list[i]);
         i += 1;
     }
     h
 }
 
 pub fn board(b: Board) -> u64 {
-    let numbers = step(step(step(0, b.colours), b.frames), b.domains);
+    let numbers = hash_step(hash_step(hash_step(0, b.colours), b.frames), b.domains);
     let grants = b.grants;
     let active = b.active;
     eight(eight(numbers, grants), active)
@@ -51,8 +44,8 @@ fn triple(list: &[u16], at: usize) -> u64
     requires { ⌜ at + 3 ≤ length (now list) ⌝ }
     ensures { λ r. ⌜ r < 4294967296 ⌝ }
 {
-    step(
-        step(step(0, wide(list[at])), wide(list[at + 1])),
+    hash_step(
+        hash_step(hash_step(0, wide(list[at])), wide(list[at + 1])),
         wide(list[at + 2]),
     )
 }

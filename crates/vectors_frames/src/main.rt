@@ -16,10 +16,10 @@ pub struct Request {
 }
 
 fn next_request() -> Request {
-    let operation = input::next_word();
-    let domain = input::next_word();
-    let argument = input::next_word();
-    let room = input::next_below(13000);
+    let operation = vectors_input::next_word();
+    let domain = vectors_input::next_word();
+    let argument = vectors_input::next_word();
+    let room = vectors_input::next_below(13000);
     Request {
         operation,
         domain,
@@ -100,19 +100,19 @@ fn calls(first: Board, table: &mut [u16], count: u32) {
 
 fn script() {
     let mut words = input::longest_table();
-    let board = input::next_board();
-    let length = input::next_below(4200);
+    let board = vectors_input::next_board();
+    let length = vectors_input::next_below(4200);
     if 4200 < length {
         return;
     }
     let table = &mut words[..length];
     input::next_table(table);
-    let count = input::next_word();
+    let count = vectors_input::next_word();
     calls(board, table, count);
 }
 
 fn main() {
-    let scripts = input::next_word();
+    let scripts = vectors_input::next_word();
     let mut done = 0;
     while done < scripts {
         script();

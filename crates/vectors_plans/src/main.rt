@@ -10,7 +10,7 @@ mod output;
 // The list of times that an admission is lent holds words that tell whether one was changed.
 fn admit(reload: u32, vcpus: &[u32], tasks: &[u32], board: Board) {
     let mut list = input::longest_times();
-    let room = input::next_below(60);
+    let room = vectors_input::next_below(60);
     if 60 < room {
         return;
     }
@@ -23,7 +23,7 @@ fn admit(reload: u32, vcpus: &[u32], tasks: &[u32], board: Board) {
 
 fn with_tasks(board: Board, reload: u32, vcpus: &[u32]) {
     let mut words = input::longest_tasks();
-    let length = input::next_below(700);
+    let length = vectors_input::next_below(700);
     if 700 < length {
         return;
     }
@@ -33,10 +33,10 @@ fn with_tasks(board: Board, reload: u32, vcpus: &[u32]) {
 }
 
 fn admission_case() {
-    let board = input::next_board();
-    let reload = input::next_word();
+    let board = vectors_input::next_board();
+    let reload = vectors_input::next_word();
     let mut words = input::longest_vcpus();
-    let length = input::next_below(80);
+    let length = vectors_input::next_below(80);
     if 80 < length {
         return;
     }
@@ -46,9 +46,9 @@ fn admission_case() {
 }
 
 fn part_case() {
-    let vcpu = input::next_word();
+    let vcpu = vectors_input::next_word();
     let mut words = input::longest_tasks();
-    let length = input::next_below(700);
+    let length = vectors_input::next_below(700);
     if 700 < length {
         return;
     }
@@ -58,9 +58,9 @@ fn part_case() {
 }
 
 fn supply_case() {
-    let period = input::next_word();
-    let budget = input::next_word();
-    let t = input::next_word();
+    let period = vectors_input::next_word();
+    let budget = vectors_input::next_word();
+    let t = vectors_input::next_word();
     output::supply(supply::least(period, budget, t));
 }
 
@@ -77,10 +77,10 @@ fn answer(operation: u32) {
 }
 
 fn main() {
-    let cases = input::next_word();
+    let cases = vectors_input::next_word();
     let mut done = 0;
     while done < cases {
-        let operation = input::next_word();
+        let operation = vectors_input::next_word();
         answer(operation);
         done += 1;
     }

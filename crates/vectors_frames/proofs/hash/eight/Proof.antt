@@ -13,14 +13,14 @@ abbrev μ-loop : tie.MeasureT-loop
 loop-holds : tie.Need-loop-holds Inv-loop μ-loop
 loop-holds c = search needs
 
-mul-step : tie.Need-mul-step Inv-loop μ-loop
-mul-step c = search needs
+mul-hash-step : tie.Need-mul-hash-step Inv-loop μ-loop
+mul-hash-step c = search needs
 
-array-read-step : tie.Need-array-read-step Inv-loop μ-loop
-array-read-step c = search needs
+array-read-hash-step : tie.Need-array-read-hash-step Inv-loop μ-loop
+array-read-hash-step c = search needs
 
-step-requires : tie.Need-step-requires Inv-loop μ-loop
-step-requires c κs = search needs
+hash-step-requires : tie.Need-hash-step-requires Inv-loop μ-loop
+hash-step-requires c κs = search needs
 
 add-i : tie.Need-add-i Inv-loop μ-loop
 add-i c = search needs
@@ -41,9 +41,9 @@ eight-spec =
     Inv-loop
     μ-loop
     loop-holds
-    mul-step
-    array-read-step
-    step-requires
+    mul-hash-step
+    array-read-hash-step
+    hash-step-requires
     add-i
     loop-less
     loop-again

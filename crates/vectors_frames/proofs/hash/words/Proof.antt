@@ -23,8 +23,8 @@ shared-slice-read-wide c = search needs
 wide-requires : tie.Need-wide-requires Inv-loop μ-loop
 wide-requires c κs = search needs
 
-step-requires : tie.Need-step-requires Inv-loop μ-loop
-step-requires c κs = search needs
+hash-step-requires : tie.Need-hash-step-requires Inv-loop μ-loop
+hash-step-requires c κs = search needs
 
 add-i : tie.Need-add-i Inv-loop μ-loop
 add-i c = search needs
@@ -48,7 +48,7 @@ words-spec =
     mul-wide
     shared-slice-read-wide
     wide-requires
-    step-requires
+    hash-step-requires
     add-i
     loop-less
     loop-again

@@ -1,10 +1,10 @@
--- `vectors_frames::input::next_eight` is safe and ends.
+-- `vectors_input::next_eight` is safe and ends.
 use Prim.Native.Nat.{_≤_, _-_}
 use mathlib.Core.Path.{_≡_}
 use lib.ListN.{length}
 use borrow.Author.Needs.{needs}
-use Rattle.vectors_frames.proofs.input.next_eight.Statement.{statement}
-use Rattle.vectors_frames.proofs.input.next_eight.Tie as tie
+use Rattle.vectors_input.proofs.next_eight.Statement.{statement}
+use Rattle.vectors_input.proofs.next_eight.Tie as tie
 
 abbrev Inv-loop : tie.InvT-loop
 Inv-loop words₀ i₀ words i = (i ≤ 8) × (length words ≡ 8)
