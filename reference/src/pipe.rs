@@ -1,6 +1,7 @@
 //! A run of a program whose standard input is a pipe, written whole or in pieces, so that its reads come
 //! back short.
 
+use std::fs;
 use std::io::{self, Read, Write};
 use std::process::{Child, Command, ExitStatus, Stdio};
 use std::sync::mpsc;
@@ -12,13 +13,14 @@ use crate::random::Random;
 /// More than any program prints that is worth comparing; the rest is not read.
 const MOST_OUTPUT: u64 = 1 << 20;
 
-/// Long enough for a program that waits to read what is there.
-const PAUSE: Duration = Duration::from_micros(100);
+/// How long the tool sleeps before it looks again, and how often it looks at most.
+const NAP: Duration = Duration::from_micros(50);
+const NAPS: u32 = 1000;
 
 /// So many pauses at most, about, in one input: without them its pieces may run together in the pipe.
 const PAUSES: u64 = 16;
 
-/// What is written at once, and whether a pause follows.
+/// What is written at once, and whether a pause follows, in which the program may read it.
 #[derive(Clone, Copy, Debug, PartialEq, Eq)]
 pub struct Piece {
     pub length: usize,
@@ -54,7 +56,7 @@ pub fn any_pieces(random: &mut Random, length: usize) -> Vec<Piece> {
 
 /// Writes the pieces and closes the pipe. A program may stop to read when it has seen enough, so that
 /// the rest cannot be written: that is its right.
-fn feed(mut pipe: impl Write, input: &[u8], pieces: &[Piece]) {
+fn feed(mut pipe: impl Write, input: &[u8], pieces: &[Piece], pause: impl Fn()) {
     let mut rest = input;
     for piece in pieces {
         let (now, later) = rest.split_at(piece.length);
@@ -63,8 +65,25 @@ fn feed(mut pipe: impl Write, input: &[u8], pieces: &[Piece]) {
         }
         rest = later;
         match piece.pause && !rest.is_empty() {
-            true => thread::sleep(PAUSE),
+            true => pause(),
             false => thread::yield_now(),
+        }
+    }
+}
+
+/// Waits until the program sleeps, as it does where it has read all that is there and wants more; where
+/// the system does not tell, a moment.
+fn until_asleep(process: u32) {
+    for _ in 0..NAPS {
+        thread::sleep(NAP);
+        let stat = fs::read_to_string(format!("/proc/{process}/stat")).unwrap_or_default();
+        // the state is the letter behind the name, which stands in brackets
+        let state = stat
+            .rsplit(") ")
+            .next()
+            .and_then(|rest| rest.chars().next());
+        if !matches!(state, Some('R' | 'D')) {
+            return;
         }
     }
 }
@@ -97,7 +116,8 @@ pub fn run(
         panic!("both are pipes");
     };
     // nobody waits for the two threads: a program that hangs may leave its pipes open to others
-    thread::spawn(move || feed(stdin, &input, &pieces));
+    let process = child.id();
+    thread::spawn(move || feed(stdin, &input, &pieces, || until_asleep(process)));
     let (send, receive) = mpsc::channel();
     thread::spawn(move || {
         let mut output = Vec::new();
@@ -122,7 +142,7 @@ fn wait(child: &mut Child, end: Instant) -> io::Result<Option<ExitStatus>> {
         if status.is_some() || Instant::now() >= end {
             return Ok(status);
         }
-        thread::sleep(PAUSE);
+        thread::sleep(NAP);
     }
 }
 
@@ -150,7 +170,7 @@ mod tests {
             let pieces = any_pieces(&mut random, input.len());
             assert!(pieces.iter().all(|piece| piece.length > 0));
             let mut written = Vec::new();
-            feed(&mut written, &input, &pieces);
+            feed(&mut written, &input, &pieces, || {});
             assert_eq!(written, input);
         }
     }
@@ -165,16 +185,17 @@ mod tests {
         }
     }
 
-    /// One read gets no more than the first piece.
+    /// Each read gets no more than one piece.
     #[test]
     fn reads_come_back_short() {
         let pause = true;
-        let short = (0..20).any(|_| {
-            let pieces = [3, 97].map(|length| Piece { length, pause });
-            let one_read = "dd bs=100 count=1 2>/dev/null";
-            output(shell(one_read, vec![7; 100], pieces.to_vec())).len() == 3
-        });
-        assert!(short);
+        for lengths in [[3, 97, 1], [1, 4, 96]] {
+            let pieces = lengths.map(|length| Piece { length, pause });
+            let two_reads = "exec dd bs=100 count=2 2>/dev/null";
+            let read = || output(shell(two_reads, vec![7; 101], pieces.to_vec())).len();
+            // a program may sleep before it reads, too
+            assert!((0..10).any(|_| read() == lengths[0] + lengths[1]));
+        }
     }
 
     #[test]
