@@ -5,11 +5,14 @@ use native.Mathlib.Nat.{zero-add, suc-add}
 use native.Mathlib.Omega.{arith}
 use mathlib.Core.List.{List, [], _∷_, _++_}
 use mathlib.Core.Path.{_≡_, refl, sym, ap, _∙_}
-use lib.ListN.{length, getD, set, take, drop, length-append}
+use lib.ListN.{length, getD, set, take, drop, length-append, length-set}
 use lib.Seq.{drop-cons, take-all, take-at, drop-at}
+use Rattle.lists.proofs.Split.{cases}
+use Rattle.refusal.specs.Reply.{Test, unless}
 use Rattle.board.specs.declared.Board.{Board}
-use Rattle.calls.specs.Calls.{withActive}
-use Rattle.juzvanec.specs.Words.{wordsFrom, boardOf, boardWords}
+use Rattle.calls.specs.Table.{State}
+use Rattle.calls.specs.Calls.{Done, withActive, recolour, called, settle}
+use Rattle.juzvanec.specs.Words.{wordsFrom, boardOf, boardWords, wordsAfter, lent}
 
 taken : (ws : List ℕ) (n k : ℕ) → k + n ≤ length ws → take n (drop k ws) ≡ wordsFrom k n ws
 taken ws zero k h = refl
@@ -46,3 +49,24 @@ pub one-word : (ws : List ℕ) (d c : ℕ) → length ws ≡ 19 → boardWords (
 unfolding boardWords
 one-word ws d c e =
     sym (set-after (wordsFrom 0 11 ws) (wordsFrom 11 8 ws) d c) ∙ ap (λ (l : List ℕ). set l (11 + d) c) (words-back ws e)
+
+-- where the words stand for the board before a call, those after it stand for the board after it
+settled :
+    (s : State) (ws : List ℕ) (ts : List Test) (done : Done)
+    → boardOf ws ≡ s .board
+    → boardOf (boardWords (done .next .board)) ≡ done .next .board
+    → boardOf (wordsAfter (settle s (unless ts done) .reply) (settle s (unless ts done) .next .board) ws) ≡ settle s (unless ts done) .next .board
+unfolding settle unless
+settled s ws [] done before after = after
+settled s ws (t ∷ ts) done before after =
+    cases (t .fails) (λ e. rw e before) (λ e. rw e (settled s ws ts done before after))
+
+pub words-stand :
+    (ws table moves : List ℕ) (d c : ℕ)
+    → boardOf (wordsAfter (recolour (lent ws table) d c moves .reply) (recolour (lent ws table) d c moves .next .board) ws)
+    ≡ recolour (lent ws table) d c moves .next .board
+unfolding recolour called
+words-stand ws table moves d c =
+    let b : Board = withActive (boardOf ws) d c in
+    let long : length (b .active) ≡ 8 = simp length-set in
+    settled (lent ws table) ws _ _ refl (board-back b refl long)

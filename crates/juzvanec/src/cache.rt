@@ -7,6 +7,7 @@ use crate::replies::bleached;
 use crate::replies::counted;
 use crate::replies::laid;
 
+// The number N of colours of a cache.
 #[no_mangle]
 pub extern "C" fn juzvanec_cache_colours(
     bytes: u64,
@@ -24,6 +25,7 @@ pub extern "C" fn juzvanec_cache_colours(
     told.number
 }
 
+// The page of an index under a colour set.
 #[no_mangle]
 pub extern "C" fn juzvanec_layout(
     colours: u32,
@@ -42,6 +44,7 @@ pub extern "C" fn juzvanec_layout(
     told.number
 }
 
+// The index of a page under a colour set.
 #[no_mangle]
 pub extern "C" fn juzvanec_bleach(
     colours: u32,

@@ -1,6 +1,7 @@
 // The library for callers in C: document 01's operations over numbers, lent lists and a board lent as
-// 19 words. Every function is total and returns the number of the refusal, 0 where it answers; what
-// else it tells goes through pointers. `table`, `cache` and `plans` follow document 01's parts.
+// 19 words. Every function is total. It returns the number of the refusal, 0 where it answers, and
+// always writes the other numbers through pointers; `part` refuses nothing and returns nothing.
+// Pointers are references: none is null, and what one of them may write no other may reach.
 mod cache;
 mod plans;
 mod replies;

@@ -9,7 +9,7 @@ ghost use Rattle.juzvanec.specs.Replies.{numberOf, rowOf};
 use crate::replies::admitted;
 use crate::words::board_of;
 
-// The part starts at word `start` of the caller's list and has `length` words.
+// The part of a VCPU: it starts at word `start` of the caller's list and has `length` words.
 #[no_mangle]
 pub extern "C" fn juzvanec_part(tasks: &[u32], vcpu: u32, start: &mut usize, length: &mut usize)
     ensures { λ _. ⌜ now (start .exit) ≡ 20 * partStart (now (tasks .entry)) vcpu ⌝ }
@@ -20,6 +20,7 @@ pub extern "C" fn juzvanec_part(tasks: &[u32], vcpu: u32, start: &mut usize, len
     *length = part.len();
 }
 
+// The verdict on a plan. Admitted, `times` holds the times of the VCPUs and then of the tasks.
 #[no_mangle]
 pub extern "C" fn juzvanec_admit_plan(
     board: &[u32; 19],

@@ -79,6 +79,7 @@ pub(crate) fn looked(answer: Looked) -> Told
     }
 }
 
+// 1 for a page that is mapped.
 pub(crate) fn mapped_flag(answer: Looked) -> u32
     ensures { λ r. ⌜ r ≡ valueOf isMapped (paperLooked answer) ⌝ }
 {
@@ -99,6 +100,7 @@ pub(crate) fn faulted(answer: Faulted) -> Told
     }
 }
 
+// 1 for a frame that is new.
 pub(crate) fn new_flag(answer: Faulted) -> u32
     ensures { λ r. ⌜ r ≡ valueOf isNew (paperFaulted answer) ⌝ }
 {

@@ -15,7 +15,7 @@ use crate::replies::released;
 use crate::words::board_of;
 use crate::words::write_recoloured;
 
-// Mapped is 1 with the frame, or 0 with frame 0.
+// The page's frame: `mapped` is 1 with the frame, or 0 with frame 0.
 #[no_mangle]
 pub extern "C" fn juzvanec_look(
     board: &[u32; 19],
@@ -39,7 +39,7 @@ pub extern "C" fn juzvanec_look(
     told.number
 }
 
-// Is_new is 1 where the page got the frame now, and 0 where it had it.
+// The page's frame, old or new: `is_new` is 1 where the page got it now, and 0 where it had it.
 #[no_mangle]
 pub extern "C" fn juzvanec_fault(
     board: &[u32; 19],
@@ -64,6 +64,7 @@ pub extern "C" fn juzvanec_fault(
     told.number
 }
 
+// The page's frame, which becomes free.
 #[no_mangle]
 pub extern "C" fn juzvanec_release(
     board: &[u32; 19],
@@ -84,6 +85,7 @@ pub extern "C" fn juzvanec_release(
     told.number
 }
 
+// The domain's active set.
 #[no_mangle]
 pub extern "C" fn juzvanec_colours(
     board: &[u32; 19],
@@ -102,7 +104,8 @@ pub extern "C" fn juzvanec_colours(
     told.number
 }
 
-// The board's words are written only where the call answers: then the domain's active set is the new one.
+// The count of moves; the triples stand in `moves`. The board's words are written only where the call
+// answers: then the domain's active set is the new one.
 #[no_mangle]
 pub extern "C" fn juzvanec_recolour(
     board: &mut [u32; 19],

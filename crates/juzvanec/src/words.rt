@@ -7,6 +7,7 @@ use board::Board;
 use frames::Moved;
 use frames::Recoloured;
 
+// The board that the words stand for.
 pub(crate) fn board_of(words: &[u32; 19]) -> Board
     ensures { λ r. ⌜ r ≡ boardOf (now (words .entry)) ⌝ }
 {
@@ -39,7 +40,8 @@ pub(crate) fn board_of(words: &[u32; 19]) -> Board
     }
 }
 
-pub(crate) fn write_board(words: &mut [u32; 19], board: Board)
+// The words of a board.
+fn write_board(words: &mut [u32; 19], board: Board)
     ensures { λ _. ⌜ now (words .exit) ≡ boardWords board ⌝ }
 {
     let g = board.grants;
