@@ -12,7 +12,7 @@ use Rattle.refusal.specs.Reply.{Test, unless}
 use Rattle.board.specs.declared.Board.{Board}
 use Rattle.calls.specs.Table.{State}
 use Rattle.calls.specs.Calls.{Done, withActive, recolour, called, settle}
-use Rattle.juzvanec.specs.Words.{wordsFrom, boardOf, boardWords, wordsAfter, lent}
+use Rattle.juzvanec.specs.Words.{wordsFrom, boardOf, boardWords, wordsLeft, lent}
 
 taken : (ws : List ℕ) (n k : ℕ) → k + n ≤ length ws → take n (drop k ws) ≡ wordsFrom k n ws
 taken ws zero k h = refl
@@ -55,7 +55,7 @@ settled :
     (s : State) (ws : List ℕ) (ts : List Test) (done : Done)
     → boardOf ws ≡ s .board
     → boardOf (boardWords (done .next .board)) ≡ done .next .board
-    → boardOf (wordsAfter (settle s (unless ts done) .reply) (settle s (unless ts done) .next .board) ws) ≡ settle s (unless ts done) .next .board
+    → boardOf (wordsLeft (settle s (unless ts done)) ws) ≡ settle s (unless ts done) .next .board
 unfolding settle unless
 settled s ws [] done before after = after
 settled s ws (t ∷ ts) done before after =
@@ -63,8 +63,7 @@ settled s ws (t ∷ ts) done before after =
 
 pub words-stand :
     (ws table moves : List ℕ) (d c : ℕ)
-    → boardOf (wordsAfter (recolour (lent ws table) d c moves .reply) (recolour (lent ws table) d c moves .next .board) ws)
-    ≡ recolour (lent ws table) d c moves .next .board
+    → boardOf (wordsLeft (recolour (lent ws table) d c moves) ws) ≡ recolour (lent ws table) d c moves .next .board
 unfolding recolour called
 words-stand ws table moves d c =
     let b : Board = withActive (boardOf ws) d c in

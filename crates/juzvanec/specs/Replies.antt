@@ -43,22 +43,12 @@ numberIn (Freed f) = f
 numberIn (Active s) = s
 numberIn (Moved n) = n
 
--- 1 where look answers a frame
-abbrev pub isMapped : Answer → ℕ
-isMapped (Mapped f) = 1
-isMapped Unmapped = 0
-isMapped (Old f) = 0
-isMapped (New f) = 0
-isMapped (Freed f) = 0
-isMapped (Active s) = 0
-isMapped (Moved n) = 0
-
--- 1 where fault answers a new frame
-abbrev pub isNew : Answer → ℕ
-isNew (Mapped f) = 0
-isNew Unmapped = 0
-isNew (Old f) = 0
-isNew (New f) = 1
-isNew (Freed f) = 0
-isNew (Active s) = 0
-isNew (Moved n) = 0
+-- what tells mapped from unmapped and new from old: 1 for a page that is mapped and for a frame that is new
+abbrev pub flagIn : Answer → ℕ
+flagIn (Mapped f) = 1
+flagIn Unmapped = 0
+flagIn (Old f) = 0
+flagIn (New f) = 1
+flagIn (Freed f) = 0
+flagIn (Active s) = 0
+flagIn (Moved n) = 0

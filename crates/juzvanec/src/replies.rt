@@ -3,7 +3,7 @@ ghost use mathlib.Core.Path.{_≡_};
 ghost use Rattle.colours.specs.Paper.{paperCount, paperLaid, paperBleached};
 ghost use Rattle.frames.specs.Paper.{paperLooked, paperFaulted, paperReleased, paperActive, paperMoved};
 ghost use Rattle.admission.specs.Paper.{paperAdmission};
-ghost use Rattle.juzvanec.specs.Replies.{Tells, valueOf, itself, nothing, numberIn, isMapped, isNew};
+ghost use Rattle.juzvanec.specs.Replies.{Tells, valueOf, itself, nothing, numberIn, flagIn};
 use admission::Admission;
 use colours::Bleached;
 use colours::ColourCount;
@@ -81,7 +81,7 @@ pub(crate) fn looked(answer: Looked) -> Told
 
 // 1 for a page that is mapped.
 pub(crate) fn mapped_flag(answer: Looked) -> u32
-    ensures { λ r. ⌜ r ≡ valueOf isMapped (paperLooked answer) ⌝ }
+    ensures { λ r. ⌜ r ≡ valueOf flagIn (paperLooked answer) ⌝ }
 {
     match answer {
         Looked::Frame(_) => 1,
@@ -102,7 +102,7 @@ pub(crate) fn faulted(answer: Faulted) -> Told
 
 // 1 for a frame that is new.
 pub(crate) fn new_flag(answer: Faulted) -> u32
-    ensures { λ r. ⌜ r ≡ valueOf isNew (paperFaulted answer) ⌝ }
+    ensures { λ r. ⌜ r ≡ valueOf flagIn (paperFaulted answer) ⌝ }
 {
     match answer {
         Faulted::Old(_) => 0,

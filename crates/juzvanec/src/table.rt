@@ -3,8 +3,8 @@
 ghost use mathlib.Core.Path.{_≡_};
 ghost use Rattle.calls.specs.Calls.{look as lookCall, fault as faultCall, release as releaseCall, colours as coloursCall, recolour as recolourCall};
 ghost use Rattle.calls.specs.Moves.{Listed};
-ghost use Rattle.juzvanec.specs.Words.{wordsAfter, lent};
-ghost use Rattle.juzvanec.specs.Replies.{numberOf, rowOf, valueOf, numberIn, isMapped, isNew};
+ghost use Rattle.juzvanec.specs.Words.{wordsLeft, lent};
+ghost use Rattle.juzvanec.specs.Replies.{numberOf, rowOf, valueOf, numberIn, flagIn};
 use crate::replies::active;
 use crate::replies::faulted;
 use crate::replies::looked;
@@ -27,7 +27,7 @@ pub extern "C" fn juzvanec_look(
     row: &mut u32,
 ) -> u32
     ensures { λ r. ⌜ r ≡ numberOf ((lookCall (lent (now (board .entry)) (now (table .entry))) domain page) .reply) ⌝ }
-    ensures { λ _. ⌜ now (mapped .exit) ≡ valueOf isMapped ((lookCall (lent (now (board .entry)) (now (table .entry))) domain page) .reply) ⌝ }
+    ensures { λ _. ⌜ now (mapped .exit) ≡ valueOf flagIn ((lookCall (lent (now (board .entry)) (now (table .entry))) domain page) .reply) ⌝ }
     ensures { λ _. ⌜ now (frame .exit) ≡ valueOf numberIn ((lookCall (lent (now (board .entry)) (now (table .entry))) domain page) .reply) ⌝ }
     ensures { λ _. ⌜ now (row .exit) ≡ rowOf ((lookCall (lent (now (board .entry)) (now (table .entry))) domain page) .reply) ⌝ }
 {
@@ -51,7 +51,7 @@ pub extern "C" fn juzvanec_fault(
     row: &mut u32,
 ) -> u32
     ensures { λ r. ⌜ r ≡ numberOf ((faultCall (lent (now (board .entry)) (now (table .entry))) domain page) .reply) ⌝ }
-    ensures { λ _. ⌜ now («is_new» .exit) ≡ valueOf isNew ((faultCall (lent (now (board .entry)) (now (table .entry))) domain page) .reply) ⌝ }
+    ensures { λ _. ⌜ now («is_new» .exit) ≡ valueOf flagIn ((faultCall (lent (now (board .entry)) (now (table .entry))) domain page) .reply) ⌝ }
     ensures { λ _. ⌜ now (frame .exit) ≡ valueOf numberIn ((faultCall (lent (now (board .entry)) (now (table .entry))) domain page) .reply) ⌝ }
     ensures { λ _. ⌜ now (row .exit) ≡ rowOf ((faultCall (lent (now (board .entry)) (now (table .entry))) domain page) .reply) ⌝ }
     ensures { λ _. ⌜ now (table .exit) ≡ (faultCall (lent (now (board .entry)) (now (table .entry))) domain page) .next .table ⌝ }
@@ -119,7 +119,7 @@ pub extern "C" fn juzvanec_recolour(
     ensures { λ r. ⌜ r ≡ numberOf ((recolourCall (lent (now (board .entry)) (now (table .entry))) domain set (now (moves .entry))) .reply) ⌝ }
     ensures { λ _. ⌜ now (count .exit) ≡ valueOf numberIn ((recolourCall (lent (now (board .entry)) (now (table .entry))) domain set (now (moves .entry))) .reply) ⌝ }
     ensures { λ _. ⌜ now (row .exit) ≡ rowOf ((recolourCall (lent (now (board .entry)) (now (table .entry))) domain set (now (moves .entry))) .reply) ⌝ }
-    ensures { λ _. ⌜ now (board .exit) ≡ wordsAfter ((recolourCall (lent (now (board .entry)) (now (table .entry))) domain set (now (moves .entry))) .reply) ((recolourCall (lent (now (board .entry)) (now (table .entry))) domain set (now (moves .entry))) .next .board) (now (board .entry)) ⌝ }
+    ensures { λ _. ⌜ now (board .exit) ≡ wordsLeft (recolourCall (lent (now (board .entry)) (now (table .entry))) domain set (now (moves .entry))) (now (board .entry)) ⌝ }
     ensures { λ _. ⌜ now (table .exit) ≡ (recolourCall (lent (now (board .entry)) (now (table .entry))) domain set (now (moves .entry))) .next .table ⌝ }
     ensures { λ _. ⌜ Listed ((recolourCall (lent (now (board .entry)) (now (table .entry))) domain set (now (moves .entry))) .moves) (now (moves .entry)) (now (moves .exit)) ⌝ }
 {

@@ -3,7 +3,7 @@ use mathlib.Core.Path.{ap, _∙_}
 use Rattle.board.specs.declared.Board.{Board}
 use Rattle.calls.specs.Table.{stateOf}
 use Rattle.calls.specs.Calls.{Outcome, fault as faultCall}
-use Rattle.juzvanec.specs.Replies.{valueOf, numberIn, isNew}
+use Rattle.juzvanec.specs.Replies.{valueOf, numberIn, flagIn}
 use Rattle.juzvanec.proofs.Tellings.{told-same}
 use borrow.Author.Needs.{needs}
 use Rattle.juzvanec.proofs.table.juzvanec_fault.Statement.{statement}
@@ -32,7 +32,7 @@ returns c =
     let reply = c .before .before .before .before .fault .ensures .0 ∙ ap (λ (b : Board). on b .reply) same in
     let table = c .before .before .before .before .fault .ensures .1 ∙ ap (λ (b : Board). on b .next .table) same in
     let t = told-same numberIn (c .before .faulted .ensures) reply in
-    (t .number, (c .new-flag .ensures ∙ ap (valueOf isNew) reply, (t .value, (t .row, table))))
+    (t .number, (c .new-flag .ensures ∙ ap (valueOf flagIn) reply, (t .value, (t .row, table))))
 
 pub juzvanec-fault-spec : {M : Type 1} → statement M
 juzvanec-fault-spec =

@@ -3,7 +3,7 @@ use mathlib.Core.Path.{ap, _∙_}
 use Rattle.board.specs.declared.Board.{Board}
 use Rattle.calls.specs.Table.{stateOf}
 use Rattle.calls.specs.Calls.{Outcome, look as lookCall}
-use Rattle.juzvanec.specs.Replies.{valueOf, numberIn, isMapped}
+use Rattle.juzvanec.specs.Replies.{valueOf, numberIn, flagIn}
 use Rattle.juzvanec.proofs.Tellings.{told-same}
 use borrow.Author.Needs.{needs}
 use Rattle.juzvanec.proofs.table.juzvanec_look.Statement.{statement}
@@ -27,7 +27,7 @@ returns c =
     let on : Board → Outcome = λ b. lookCall (stateOf b (a .table .now)) (a .domain) (a .page) in
     let reply = c .before .before .look .ensures ∙ ap (λ (b : Board). on b .reply) (c .before .before .before .board-of .ensures) in
     let t = told-same numberIn (c .before .looked .ensures) reply in
-    (t .number, (c .mapped-flag .ensures ∙ ap (valueOf isMapped) reply, (t .value, t .row)))
+    (t .number, (c .mapped-flag .ensures ∙ ap (valueOf flagIn) reply, (t .value, t .row)))
 
 pub juzvanec-look-spec : {M : Type 1} → statement M
 juzvanec-look-spec =
