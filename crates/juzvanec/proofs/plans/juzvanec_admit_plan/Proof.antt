@@ -1,0 +1,39 @@
+-- `juzvanec::plans::juzvanec_admit_plan` meets its contract: admission's reply, over the board that the words stand for, is told.
+use mathlib.Core.Path.{ap, _∙_}
+use lib.ListN.{length}
+use Rattle.board.specs.declared.Board.{Board}
+use Rattle.admission.specs.Admission.{admissionReply, timesAfter}
+use Rattle.juzvanec.specs.Replies.{nothing}
+use Rattle.juzvanec.proofs.Tellings.{told-same}
+use borrow.Author.Needs.{needs}
+use Rattle.juzvanec.proofs.plans.juzvanec_admit_plan.Statement.{statement}
+use Rattle.juzvanec.proofs.plans.juzvanec_admit_plan.Tie as tie
+
+board-of-requires : tie.Need-board-of-requires
+board-of-requires c κs = search needs
+
+admit-plan-requires : tie.Need-admit-plan-requires
+admit-plan-requires c κs = search needs
+
+admitted-requires : tie.Need-admitted-requires
+admitted-requires c κs = search needs
+
+same-length : tie.Need-same-length
+same-length c = search needs
+
+returns : tie.Need-returns
+returns c =
+    let a = c .before .before .before .before .before .before .before .before .before .args in
+    let same = c .before .before .before .before .before .board-of .ensures in
+    let done = c .before .before .before .admit-plan .ensures in
+    let reply =
+    done .0
+    ∙ ap (λ (b : Board). admissionReply b (a .reload) (a .vcpus .now) (a .tasks .now) (length (a .times .now))) same in
+    let times = done .1 ∙ ap (λ (b : Board). timesAfter b (a .reload) (a .vcpus .now) (a .tasks .now) (a .times .now)) same in
+    let t = told-same nothing (c .admitted .ensures) reply in
+    (t .number, (t .row, times))
+
+pub juzvanec-admit-plan-spec : {M : Type 1} → statement M
+juzvanec-admit-plan-spec =
+    tie.close
+    (tie.spec board-of-requires admit-plan-requires admitted-requires same-length returns)

@@ -1,0 +1,31 @@
+-- `juzvanec::table::juzvanec_colours` meets its contract: the call's reply, over the board that the words stand for, is told.
+use mathlib.Core.Path.{ap, _∙_}
+use Rattle.board.specs.declared.Board.{Board}
+use Rattle.calls.specs.Table.{stateOf}
+use Rattle.calls.specs.Calls.{Outcome, colours as coloursCall}
+use Rattle.juzvanec.specs.Replies.{numberIn}
+use Rattle.juzvanec.proofs.Tellings.{told-same}
+use borrow.Author.Needs.{needs}
+use Rattle.juzvanec.proofs.table.juzvanec_colours.Statement.{statement}
+use Rattle.juzvanec.proofs.table.juzvanec_colours.Tie as tie
+
+board-of-requires : tie.Need-board-of-requires
+board-of-requires c κs = search needs
+
+colours-requires : tie.Need-colours-requires
+colours-requires c κs = search needs
+
+active-requires : tie.Need-active-requires
+active-requires c κs = search needs
+
+returns : tie.Need-returns
+returns c =
+    let a = c .before .before .before .before .args in
+    let on : Board → Outcome = λ b. coloursCall (stateOf b (a .table .now)) (a .domain) in
+    let reply = c .before .colours .ensures ∙ ap (λ (b : Board). on b .reply) (c .before .before .board-of .ensures) in
+    let t = told-same numberIn (c .active .ensures) reply in
+    (t .number, (t .value, t .row))
+
+pub juzvanec-colours-spec : {M : Type 1} → statement M
+juzvanec-colours-spec =
+    tie.close (tie.spec board-of-requires colours-requires active-requires returns)

@@ -1,0 +1,55 @@
+-- `juzvanec::table::juzvanec_recolour` meets its contract: the call's reply, over the board that the words stand for, is told.
+use mathlib.Core.Path.{ap, ap₂, _∙_}
+use Rattle.refusal.specs.Reply.{Reply}
+use Rattle.board.specs.declared.Board.{Board}
+use Rattle.calls.specs.Table.{stateOf}
+use Rattle.calls.specs.Calls.{Answer, Outcome, recolour as recolourCall}
+use Rattle.juzvanec.specs.Words.{wordsAfter}
+use Rattle.juzvanec.specs.Replies.{numberIn}
+use Rattle.juzvanec.proofs.Tellings.{told-same}
+use borrow.Author.Needs.{needs}
+use Rattle.juzvanec.proofs.table.juzvanec_recolour.Statement.{statement}
+use Rattle.juzvanec.proofs.table.juzvanec_recolour.Tie as tie
+
+board-of-requires : tie.Need-board-of-requires
+board-of-requires c κs = search needs
+
+recolour-requires : tie.Need-recolour-requires
+recolour-requires c κs = search needs
+
+moved-requires : tie.Need-moved-requires
+moved-requires c κs = search needs
+
+write-recoloured-requires : tie.Need-write-recoloured-requires
+write-recoloured-requires c κs = search needs
+
+same-length : tie.Need-same-length
+same-length c = search needs
+
+same-length-2 : tie.Need-same-length-2
+same-length-2 c = search needs
+
+returns : tie.Need-returns
+returns c =
+    let a = c .before .before .before .before .before .before .before .before .before .before .before .before .before .before .args in
+    let on : Board → Outcome = λ b. recolourCall (stateOf b (a .table .now)) (a .domain) (a .set) (a .moves .now) in
+    let same = ap on (c .before .before .before .before .before .before .before .before .before .before .board-of .ensures) in
+    let done = c .before .before .before .before .before .before .before .recolour .ensures in
+    let reply = done .0 ∙ ap (λ (o : Outcome). o .reply) same in
+    let board = done .1 .0 ∙ ap (λ (o : Outcome). o .next .board) same in
+    let table = done .1 .1 .0 ∙ ap (λ (o : Outcome). o .next .table) same in
+    let words = c .write-recoloured .ensures ∙ ap₂ (λ (p : Reply Answer) (b : Board). wordsAfter p b (a .board .now)) reply board in
+    let t = told-same numberIn (c .before .before .moved .ensures) reply in
+    (t .number, (t .value, (t .row, (words, (table, rw same at (done .1 .1 .1))))))
+
+pub juzvanec-recolour-spec : {M : Type 1} → statement M
+juzvanec-recolour-spec =
+    tie.close
+    (tie.spec
+    board-of-requires
+    recolour-requires
+    moved-requires
+    write-recoloured-requires
+    same-length
+    same-length-2
+    returns)

@@ -1,0 +1,36 @@
+-- `juzvanec::table::juzvanec_release` meets its contract: the call's reply, over the board that the words stand for, is told.
+use mathlib.Core.Path.{ap, _∙_}
+use Rattle.board.specs.declared.Board.{Board}
+use Rattle.calls.specs.Table.{stateOf}
+use Rattle.calls.specs.Calls.{Outcome, release as releaseCall}
+use Rattle.juzvanec.specs.Replies.{numberIn}
+use Rattle.juzvanec.proofs.Tellings.{told-same}
+use borrow.Author.Needs.{needs}
+use Rattle.juzvanec.proofs.table.juzvanec_release.Statement.{statement}
+use Rattle.juzvanec.proofs.table.juzvanec_release.Tie as tie
+
+board-of-requires : tie.Need-board-of-requires
+board-of-requires c κs = search needs
+
+release-requires : tie.Need-release-requires
+release-requires c κs = search needs
+
+released-requires : tie.Need-released-requires
+released-requires c κs = search needs
+
+same-length : tie.Need-same-length
+same-length c = search needs
+
+returns : tie.Need-returns
+returns c =
+    let a = c .before .before .before .before .before .before .before .args in
+    let on : Board → Outcome = λ b. releaseCall (stateOf b (a .table .now)) (a .domain) (a .page) in
+    let same = c .before .before .before .before .before .board-of .ensures in
+    let reply = c .before .before .before .release .ensures .0 ∙ ap (λ (b : Board). on b .reply) same in
+    let table = c .before .before .before .release .ensures .1 ∙ ap (λ (b : Board). on b .next .table) same in
+    let t = told-same numberIn (c .released .ensures) reply in
+    (t .number, (t .value, (t .row, table)))
+
+pub juzvanec-release-spec : {M : Type 1} → statement M
+juzvanec-release-spec =
+    tie.close (tie.spec board-of-requires release-requires released-requires same-length returns)

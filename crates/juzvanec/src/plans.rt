@@ -1,0 +1,40 @@
+// Admission of a plan and the part of a VCPU for callers in C: document 01, "Plans".
+ghost use mathlib.Core.Path.{_≡_};
+ghost use Prim.Native.Nat.{_*_};
+ghost use lib.ListN.{length as lengthOf};
+ghost use Rattle.plan.specs.Part.{partStart, partOf};
+ghost use Rattle.admission.specs.Admission.{admissionReply, timesAfter};
+ghost use Rattle.juzvanec.specs.Words.{boardOf};
+ghost use Rattle.juzvanec.specs.Replies.{numberOf, rowOf};
+use crate::replies::admitted;
+use crate::words::board_of;
+
+// The part of a VCPU: it starts at word `start` of the caller's list and has `length` words.
+#[no_mangle]
+pub extern "C" fn juzvanec_part(tasks: &[u32], vcpu: u32, start: &mut usize, length: &mut usize)
+    ensures { λ _. ⌜ now (start .exit) ≡ 20 * partStart (now (tasks .entry)) vcpu ⌝ }
+    ensures { λ _. ⌜ now (length .exit) ≡ lengthOf (partOf (now (tasks .entry)) vcpu) ⌝ }
+{
+    let part = plan::part(tasks, vcpu);
+    *start = 20 * plan::part_start(tasks, vcpu);
+    *length = part.len();
+}
+
+// The verdict on a plan. Admitted, `times` holds the times of the VCPUs and then of the tasks.
+#[no_mangle]
+pub extern "C" fn juzvanec_admit_plan(
+    board: &[u32; 19],
+    reload: u32,
+    vcpus: &[u32],
+    tasks: &[u32],
+    times: &mut [u32],
+    row: &mut u32,
+) -> u32
+    ensures { λ r. ⌜ r ≡ numberOf (admissionReply (boardOf (now (board .entry))) reload (now (vcpus .entry)) (now (tasks .entry)) (lengthOf (now (times .entry)))) ⌝ }
+    ensures { λ _. ⌜ now (row .exit) ≡ rowOf (admissionReply (boardOf (now (board .entry))) reload (now (vcpus .entry)) (now (tasks .entry)) (lengthOf (now (times .entry)))) ⌝ }
+    ensures { λ _. ⌜ now (times .exit) ≡ timesAfter (boardOf (now (board .entry))) reload (now (vcpus .entry)) (now (tasks .entry)) (now (times .entry)) ⌝ }
+{
+    let told = admitted(admission::admit_plan(board_of(board), reload, vcpus, tasks, times));
+    *row = told.row;
+    told.number
+}

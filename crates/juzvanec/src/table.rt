@@ -1,0 +1,133 @@
+// The five calls on the frame table for callers in C: document 01, "Board and frame table". The board
+// is lent as its 19 words, and recolour alone changes it.
+ghost use mathlib.Core.Path.{_≡_};
+ghost use Rattle.calls.specs.Calls.{look as lookCall, fault as faultCall, release as releaseCall, colours as coloursCall, recolour as recolourCall};
+ghost use Rattle.calls.specs.Moves.{Listed};
+ghost use Rattle.juzvanec.specs.Words.{wordsLeft, lent};
+ghost use Rattle.juzvanec.specs.Replies.{numberOf, rowOf, valueOf, numberIn, flagIn};
+use crate::replies::active;
+use crate::replies::faulted;
+use crate::replies::looked;
+use crate::replies::mapped_flag;
+use crate::replies::moved;
+use crate::replies::new_flag;
+use crate::replies::released;
+use crate::words::board_of;
+use crate::words::write_recoloured;
+
+// The page's frame: `mapped` is 1 with the frame, or 0 with frame 0.
+#[no_mangle]
+pub extern "C" fn juzvanec_look(
+    board: &[u32; 19],
+    table: &[u16],
+    domain: u32,
+    page: u32,
+    mapped: &mut u32,
+    frame: &mut u32,
+    row: &mut u32,
+) -> u32
+    ensures { λ r. ⌜ r ≡ numberOf ((lookCall (lent (now (board .entry)) (now (table .entry))) domain page) .reply) ⌝ }
+    ensures { λ _. ⌜ now (mapped .exit) ≡ valueOf flagIn ((lookCall (lent (now (board .entry)) (now (table .entry))) domain page) .reply) ⌝ }
+    ensures { λ _. ⌜ now (frame .exit) ≡ valueOf numberIn ((lookCall (lent (now (board .entry)) (now (table .entry))) domain page) .reply) ⌝ }
+    ensures { λ _. ⌜ now (row .exit) ≡ rowOf ((lookCall (lent (now (board .entry)) (now (table .entry))) domain page) .reply) ⌝ }
+{
+    let answer = frames::look(board_of(board), table, domain, page);
+    let told = looked(answer);
+    *mapped = mapped_flag(answer);
+    *frame = told.value;
+    *row = told.row;
+    told.number
+}
+
+// The page's frame, old or new: `is_new` is 1 where the page got it now, and 0 where it had it.
+#[no_mangle]
+pub extern "C" fn juzvanec_fault(
+    board: &[u32; 19],
+    table: &mut [u16],
+    domain: u32,
+    page: u32,
+    is_new: &mut u32,
+    frame: &mut u32,
+    row: &mut u32,
+) -> u32
+    ensures { λ r. ⌜ r ≡ numberOf ((faultCall (lent (now (board .entry)) (now (table .entry))) domain page) .reply) ⌝ }
+    ensures { λ _. ⌜ now («is_new» .exit) ≡ valueOf flagIn ((faultCall (lent (now (board .entry)) (now (table .entry))) domain page) .reply) ⌝ }
+    ensures { λ _. ⌜ now (frame .exit) ≡ valueOf numberIn ((faultCall (lent (now (board .entry)) (now (table .entry))) domain page) .reply) ⌝ }
+    ensures { λ _. ⌜ now (row .exit) ≡ rowOf ((faultCall (lent (now (board .entry)) (now (table .entry))) domain page) .reply) ⌝ }
+    ensures { λ _. ⌜ now (table .exit) ≡ (faultCall (lent (now (board .entry)) (now (table .entry))) domain page) .next .table ⌝ }
+{
+    let answer = frames::fault(board_of(board), table, domain, page);
+    let told = faulted(answer);
+    *is_new = new_flag(answer);
+    *frame = told.value;
+    *row = told.row;
+    told.number
+}
+
+// The page's frame, which becomes free.
+#[no_mangle]
+pub extern "C" fn juzvanec_release(
+    board: &[u32; 19],
+    table: &mut [u16],
+    domain: u32,
+    page: u32,
+    frame: &mut u32,
+    row: &mut u32,
+) -> u32
+    ensures { λ r. ⌜ r ≡ numberOf ((releaseCall (lent (now (board .entry)) (now (table .entry))) domain page) .reply) ⌝ }
+    ensures { λ _. ⌜ now (frame .exit) ≡ valueOf numberIn ((releaseCall (lent (now (board .entry)) (now (table .entry))) domain page) .reply) ⌝ }
+    ensures { λ _. ⌜ now (row .exit) ≡ rowOf ((releaseCall (lent (now (board .entry)) (now (table .entry))) domain page) .reply) ⌝ }
+    ensures { λ _. ⌜ now (table .exit) ≡ (releaseCall (lent (now (board .entry)) (now (table .entry))) domain page) .next .table ⌝ }
+{
+    let told = released(frames::release(board_of(board), table, domain, page));
+    *frame = told.value;
+    *row = told.row;
+    told.number
+}
+
+// The domain's active set.
+#[no_mangle]
+pub extern "C" fn juzvanec_colours(
+    board: &[u32; 19],
+    table: &[u16],
+    domain: u32,
+    set: &mut u32,
+    row: &mut u32,
+) -> u32
+    ensures { λ r. ⌜ r ≡ numberOf ((coloursCall (lent (now (board .entry)) (now (table .entry))) domain) .reply) ⌝ }
+    ensures { λ _. ⌜ now (set .exit) ≡ valueOf numberIn ((coloursCall (lent (now (board .entry)) (now (table .entry))) domain) .reply) ⌝ }
+    ensures { λ _. ⌜ now (row .exit) ≡ rowOf ((coloursCall (lent (now (board .entry)) (now (table .entry))) domain) .reply) ⌝ }
+{
+    let told = active(frames::colours(board_of(board), table, domain));
+    *set = told.value;
+    *row = told.row;
+    told.number
+}
+
+// The count of moves; the triples stand in `moves`. The board's words are written only where the call
+// answers: then the domain's active set is the new one.
+#[no_mangle]
+pub extern "C" fn juzvanec_recolour(
+    board: &mut [u32; 19],
+    table: &mut [u16],
+    domain: u32,
+    set: u32,
+    moves: &mut [u16],
+    count: &mut u32,
+    row: &mut u32,
+) -> u32
+    ensures { λ r. ⌜ r ≡ numberOf ((recolourCall (lent (now (board .entry)) (now (table .entry))) domain set (now (moves .entry))) .reply) ⌝ }
+    ensures { λ _. ⌜ now (count .exit) ≡ valueOf numberIn ((recolourCall (lent (now (board .entry)) (now (table .entry))) domain set (now (moves .entry))) .reply) ⌝ }
+    ensures { λ _. ⌜ now (row .exit) ≡ rowOf ((recolourCall (lent (now (board .entry)) (now (table .entry))) domain set (now (moves .entry))) .reply) ⌝ }
+    ensures { λ _. ⌜ now (board .exit) ≡ wordsLeft (recolourCall (lent (now (board .entry)) (now (table .entry))) domain set (now (moves .entry))) (now (board .entry)) ⌝ }
+    ensures { λ _. ⌜ now (table .exit) ≡ (recolourCall (lent (now (board .entry)) (now (table .entry))) domain set (now (moves .entry))) .next .table ⌝ }
+    ensures { λ _. ⌜ Listed ((recolourCall (lent (now (board .entry)) (now (table .entry))) domain set (now (moves .entry))) .moves) (now (moves .entry)) (now (moves .exit)) ⌝ }
+{
+    let done = frames::recolour(board_of(board), table, domain, set, moves);
+    let answer = done.answer;
+    let told = moved(answer);
+    write_recoloured(board, done);
+    *count = told.value;
+    *row = told.row;
+    told.number
+}
