@@ -5,6 +5,6 @@ fn main() {
     let read = io::read_full(0, &mut input);
     let mut text = [0u8; 1024];
     let reported = report::report(&input[..read], &mut text);
-    let length = reported.length;
+    let length = reported.length as usize;
     io::write_all(1, &text[..length]);
 }

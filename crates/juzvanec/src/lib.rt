@@ -5,6 +5,7 @@
 // write no other may reach.
 mod cache;
 mod plans;
+mod program;
 mod replies;
 mod table;
 mod words;

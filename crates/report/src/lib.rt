@@ -35,7 +35,7 @@ pub enum Extent {
 pub struct Reported {
     pub verdict: Admission,
     pub words: u32,
-    pub length: usize,
+    pub length: u32,
 }
 
 fn over_limit(domains: usize, vcpus: usize, tasks: usize) -> bool

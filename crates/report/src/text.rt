@@ -64,7 +64,7 @@ fn write_lines(text: &mut [u8], at: usize, name: &[u8], times: &[u32]) -> usize
 }
 
 // The times of all rows, VCPUs first, and that the plan is admitted.
-pub(crate) fn write_admitted(text: &mut [u8], times: &[u32], vcpus: usize, tasks: usize) -> usize
+pub(crate) fn write_admitted(text: &mut [u8], times: &[u32], vcpus: usize, tasks: usize) -> u32
     requires { ⌜ (vcpus ≤ 16) × (tasks ≤ 32) × (vcpus + tasks ≤ length (now times)) × (1024 ≤ length (now text)) ⌝ }
     ensures { λ r. ⌜ (r ≡ length (admittedLines (take vcpus (now (times .entry))) (take tasks (drop vcpus (now (times .entry)))))) × (r ≤ 1024) ⌝ }
     ensures { λ r. ⌜ now (text .exit) ≡ over (admittedLines (take vcpus (now (times .entry))) (take tasks (drop vcpus (now (times .entry))))) (now (text .entry)) ⌝ }
@@ -72,13 +72,13 @@ pub(crate) fn write_admitted(text: &mut [u8], times: &[u32], vcpus: usize, tasks
     let rows = vcpus + tasks;
     let after_vcpus = write_lines(text, 0, b"vcpu ", &times[..vcpus]);
     let after_tasks = write_lines(text, after_vcpus, b"task ", &times[vcpus..rows]);
-    write_bytes(text, after_tasks, b"admitted\n")
+    write_bytes(text, after_tasks, b"admitted\n") as u32
 }
 
-pub(crate) fn write_refused(text: &mut [u8], number: u32, row: u32) -> usize
+pub(crate) fn write_refused(text: &mut [u8], number: u32, row: u32) -> u32
     requires { ⌜ 1024 ≤ length (now text) ⌝ }
     ensures { λ r. ⌜ (r ≡ length (line refusedName number row)) × (r ≤ 1024) ⌝ }
     ensures { λ r. ⌜ now (text .exit) ≡ over (line refusedName number row) (now (text .entry)) ⌝ }
 {
-    write_line(text, 0, b"refused ", number, row)
+    write_line(text, 0, b"refused ", number, row) as u32
 }

@@ -18,7 +18,7 @@ fn answer() {
     io::read_full(0, case);
     let mut text = [0u8; 1024];
     let reported = report::report(case, &mut text);
-    let written = reported.length;
+    let written = reported.length as usize;
     io::write_all(1, &text[..written]);
 }
 

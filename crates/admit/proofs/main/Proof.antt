@@ -20,11 +20,14 @@ slice-aggregate-report c = search needs
 report-requires : tie.Need-report-requires
 report-requires c κs = search needs
 
+cast-length : tie.Need-cast-length
+cast-length c = search needs
+
 array-share-prefix-text : tie.Need-array-share-prefix-text
 array-share-prefix-text c = search needs
 
 slice-aggregate-write-all : tie.Need-slice-aggregate-write-all
-slice-aggregate-write-all c = sym (length-take-le (c .before .report .result .length) (c .before .report .last .1 .0) (c .before .report .ensures .1 .0 .2))
+slice-aggregate-write-all c = sym (length-take-le (c .before .before .report .result .length) (c .before .before .report .last .1 .0) (c .before .before .report .ensures .1 .0 .2))
 
 write-all-requires : tie.Need-write-all-requires
 write-all-requires c κs = search needs
@@ -41,6 +44,7 @@ main-spec =
     array-share-prefix-input
     slice-aggregate-report
     report-requires
+    cast-length
     array-share-prefix-text
     slice-aggregate-write-all
     write-all-requires

@@ -27,12 +27,15 @@ read-full-requires c κs = search needs
 report-requires : tie.Need-report-requires
 report-requires c κs = search needs
 
+cast-written : tie.Need-cast-written
+cast-written c = search needs
+
 array-share-prefix-text : tie.Need-array-share-prefix-text
 array-share-prefix-text c = search needs
 
 slice-aggregate-write-all : tie.Need-slice-aggregate-write-all
 slice-aggregate-write-all c =
-    let r = c .before .before .report in
+    let r = c .before .before .before .report in
     sym (length-take-le (r .result .length) (r .last .1 .0) (r .ensures .1 .0 .2))
 
 write-all-requires : tie.Need-write-all-requires
@@ -51,6 +54,7 @@ answer-spec =
     slice-aggregate-case
     read-full-requires
     report-requires
+    cast-written
     array-share-prefix-text
     slice-aggregate-write-all
     write-all-requires

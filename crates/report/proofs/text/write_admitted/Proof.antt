@@ -77,6 +77,13 @@ write-bytes-requires c κs =
     let t = c .before .before .before .before .write-lines2 in
     omega (arith, s .pre, few-vcpus s, few-lent s, v .ensures .0 .1, v .kept .0, t .ensures .0 .1, t .kept .0)
 
+cast-result : tie.Need-cast-result
+cast-result c =
+    let s = c .before .before .before .before .before .before .before .before .before .before .before .before .before .before .before .before .before .before .before in
+    let v = c .before .before .before .before .before .before .before .before .before .before .before .before .before .write-lines in
+    let t = c .before .before .before .before .before .before .before .write-lines2 in
+    omega (arith, s .pre, few-vcpus s, few-lent s, v .ensures .0 .1, t .ensures .0 .1, c .before .before .write-bytes .ensures .0)
+
 same-length : tie.Need-same-length
 same-length c = search needs
 
@@ -108,5 +115,6 @@ write-admitted-spec =
     write-lines-requires-2
     slice-aggregate-write-bytes
     write-bytes-requires
+    cast-result
     same-length
     returns)

@@ -14,6 +14,11 @@ slice-aggregate-write-line c = search needs
 write-line-requires : tie.Need-write-line-requires
 write-line-requires c κs = omega (arith, c .before .before .before .pre)
 
+cast-result : tie.Need-cast-result
+cast-result c =
+    let s = c .before .before .before .before .before .before in
+    omega (arith, c .before .before .write-line .ensures .0, decimal-length 9 (s .args .number) (omega arith))
+
 same-length : tie.Need-same-length
 same-length c = search needs
 
@@ -26,4 +31,4 @@ returns c =
 
 pub write-refused-spec : {M : Type 1} → statement M
 write-refused-spec =
-    tie.close (tie.spec slice-aggregate-write-line write-line-requires same-length returns)
+    tie.close (tie.spec slice-aggregate-write-line write-line-requires cast-result same-length returns)
