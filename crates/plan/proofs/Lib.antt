@@ -3,3 +3,4 @@ pub mod Parts
 pub mod Joined
 pub mod Faults
 pub mod Accepted
+mod Sharing

@@ -101,6 +101,7 @@ fn wrong_vcpu(board: Board, vcpus: &[u32], rows: u32) -> u32
 
 // 18: the lowest task row with a field or cost outside its rule.
 fn wrong_task(board: Board, vcpus: &[u32], tasks: &[u32], rows: u32) -> u32
+    requires { ⌜ rows ≡ taskRows (now tasks) ⌝ }
     ensures { λ r. ⌜ r ≡ lowest (badTask board (now (vcpus .entry)) (now (tasks .entry))) rows ⌝ }
 {
     let mut j: u32 = 0;

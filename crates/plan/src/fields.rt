@@ -1,11 +1,13 @@
 // Whether one row is at fault for refusal 17, 18, 19 or 20: document 01, "Refusals in the order
 // tested". Each function gives the answer of the definition that it names.
 ghost use mathlib.Core.Path.{_≡_};
-ghost use Prim.Native.Nat.{_≤_, _<_};
+ghost use mathlib.Core.Bool.{false};
+ghost use Prim.Native.Nat.{ℕ, _<_};
 ghost use Rattle.lists.specs.Range.{from, any};
 ghost use Rattle.board.specs.Tests.{grant, emptyOrOutside};
 ghost use Rattle.plan.specs.Rows.{domain, taskRows};
 ghost use Rattle.plan.specs.Tests.{zeroOrAbove, badVcpu, badCost, badTask, descends as isLower, sharesColour};
+use crate::rows::known_word;
 use crate::rows::task_word;
 use crate::rows::vcpu_word;
 use board::Board;
@@ -55,26 +57,20 @@ fn bad_set(board: Board, vcpus: &[u32], vcpu: u32, set: u32) -> bool
     set == 0 || set & granted != set
 }
 
-// The cost with k colours is outside its range, or above the one before.
-fn bad_cost(tasks: &[u32], row: u32, k: u32) -> bool
-    requires { ⌜ (1 ≤ k) × (k ≤ 16) ⌝ }
-    ensures { λ r. ⌜ r ≡ badCost (now (tasks .entry)) row k ⌝ }
-{
-    let cost = task_word(tasks, row, 3 + k);
-    let before = task_word(tasks, row, 3 + (k - 1));
-    let outside = zero_or_above(LONGEST, cost);
-    outside || (1 < k && before < cost)
-}
-
-// All sixteen costs are tested, whatever the number of colours.
+// All sixteen costs are tested, whatever the number of colours. Each is held against the one before, and
+// the first against the limit, so that no other is above it either.
 fn bad_costs(tasks: &[u32], row: u32) -> bool
+    requires { ⌜ row < taskRows (now tasks) ⌝ }
     ensures { λ r. ⌜ r ≡ any (badCost (now (tasks .entry)) row) (from 1 16) ⌝ }
 {
+    let mut before = LONGEST;
     let mut k: u32 = 1;
     while k < 17 {
-        if bad_cost(tasks, row, k) {
+        let cost = known_word(tasks, row, 3 + k);
+        if zero_or_above(before, cost) {
             return true;
         }
+        before = cost;
         k += 1;
     }
     false
@@ -82,12 +78,13 @@ fn bad_costs(tasks: &[u32], row: u32) -> bool
 
 // 18: VCPU, period, deadline, colour set or a cost.
 pub(crate) fn bad_task(board: Board, vcpus: &[u32], tasks: &[u32], row: u32) -> bool
+    requires { ⌜ row < taskRows (now tasks) ⌝ }
     ensures { λ r. ⌜ r ≡ badTask board (now (vcpus .entry)) (now (tasks .entry)) row ⌝ }
 {
-    let vcpu = task_word(tasks, row, 0);
-    let period = task_word(tasks, row, 1);
-    let deadline = task_word(tasks, row, 2);
-    let set = task_word(tasks, row, 3);
+    let vcpu = known_word(tasks, row, 0);
+    let period = known_word(tasks, row, 1);
+    let deadline = known_word(tasks, row, 2);
+    let set = known_word(tasks, row, 3);
     let rows = vcpus.len() / 4;
     if vcpu as usize >= rows || zero_or_above(LONGEST, period) {
         return true;
@@ -105,16 +102,17 @@ pub(crate) fn descends(tasks: &[u32], row: u32) -> bool
     0 < row && task_word(tasks, row, 0) < task_word(tasks, row - 1, 0)
 }
 
-// 20: a colour in common with a row of another VCPU, before it or after it.
+// 20: a colour in common with a row of another VCPU. Where no lower row has one, the rows after it are
+// left to be looked at.
 pub(crate) fn shares_colour(tasks: &[u32], rows: u32, row: u32) -> bool
-    requires { ⌜ (rows ≡ taskRows (now tasks)) × (row < rows) ⌝ }
+    requires { ⌜ (rows ≡ taskRows (now tasks)) × (row < rows) × ((i : ℕ) → i < row → sharesColour (now tasks) i ≡ false) ⌝ }
     ensures { λ r. ⌜ r ≡ sharesColour (now (tasks .entry)) row ⌝ }
 {
-    let vcpu = task_word(tasks, row, 0);
-    let set = task_word(tasks, row, 3);
-    let mut k: u32 = 0;
+    let vcpu = known_word(tasks, row, 0);
+    let set = known_word(tasks, row, 3);
+    let mut k = row + 1;
     while k < rows {
-        if task_word(tasks, k, 0) != vcpu && set & task_word(tasks, k, 3) != 0 {
+        if known_word(tasks, k, 0) != vcpu && set & known_word(tasks, k, 3) != 0 {
             return true;
         }
         k += 1;

@@ -1,7 +1,8 @@
 // Words of the rows: document 01, VCPU rows of four words and task rows of twenty. The count of ones
 // in a task's set picks its cost, and that of two sets in common gives the colours reloaded.
 ghost use mathlib.Core.Path.{_≡_};
-ghost use lib.ListN.{getD};
+ghost use Prim.Native.Nat.{_+_, _*_, _<_};
+ghost use lib.ListN.{length, getD};
 ghost use Rattle.plan.specs.Rows.{vcpuWord, taskWord, cost as costOf, colours-shared};
 
 fn word_at(words: &[u32], at: usize) -> u32
@@ -22,6 +23,14 @@ pub fn task_word(tasks: &[u32], row: u32, k: u32) -> u32
     ensures { λ r. ⌜ r ≡ taskWord (now (tasks .entry)) row k ⌝ }
 {
     word_at(tasks, 20 * (row as usize) + k as usize)
+}
+
+// Word k of a task's row that is known to be there.
+pub(crate) fn known_word(tasks: &[u32], row: u32, k: u32) -> u32
+    requires { ⌜ 20 * row + k < length (now tasks) ⌝ }
+    ensures { λ r. ⌜ r ≡ taskWord (now (tasks .entry)) row k ⌝ }
+{
+    tasks[20 * (row as usize) + k as usize]
 }
 
 // The cost of a task with the colours that it holds.

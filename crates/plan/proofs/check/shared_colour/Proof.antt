@@ -1,24 +1,27 @@
--- `plan::check::shared_colour` meets its contract. The invariant: the row at fault is looked for from `j` on.
-use Prim.Native.Nat.{_-_, _≤_}
+-- `plan::check::shared_colour` meets its contract. The invariant: the row at fault is looked for from `j` on, and no lower row is at fault.
+use Prim.Native.Nat.{ℕ, _-_, _<_, _≤_}
+use native.Mathlib.Nat.{not-suc-le-zero}
 use native.Mathlib.Omega.{arith}
-use mathlib.Core.Path.{_≡_, sym, _∙_}
+use mathlib.Core.Path.{_≡_, sym, ap, _∙_}
+use mathlib.Core.Bool.{false}
 use Rattle.lists.specs.Range.{lowest, lowestFrom}
 use Rattle.lists.proofs.Sought.{sought-start, sought-hit, sought-miss, sought-end}
+use Rattle.lists.proofs.Split.{below-or-not}
 use Rattle.plan.specs.Tests.{sharesColour}
 use Rattle.plan.proofs.check.shared_colour.Statement.{statement}
 use Rattle.plan.proofs.check.shared_colour.Tie as tie
 
 abbrev Inv-loop : tie.InvT-loop
-Inv-loop tasks rows j₀ j = (j ≤ rows) × (lowest (sharesColour tasks) rows ≡ lowestFrom (sharesColour tasks) j rows)
+Inv-loop tasks rows j₀ j = (j ≤ rows) × (lowest (sharesColour tasks) rows ≡ lowestFrom (sharesColour tasks) j rows) × ((i : ℕ) → i < j → sharesColour tasks i ≡ false)
 
 abbrev μ-loop : tie.MeasureT-loop
 μ-loop tasks rows j₀ j = rows - j
 
 loop-holds : tie.Need-loop-holds Inv-loop μ-loop
-loop-holds c = let a = c .before .args in (omega arith, sought-start (sharesColour (a .tasks .now)) (a .rows))
+loop-holds c = let a = c .before .args in (omega arith, sought-start (sharesColour (a .tasks .now)) (a .rows), λ i l. absurd (not-suc-le-zero l))
 
 shares-colour-requires : tie.Need-shares-colour-requires Inv-loop μ-loop
-shares-colour-requires c κs = (omega arith, omega arith)
+shares-colour-requires c κs = (omega arith, omega arith, c .before .loop .inv .2)
 
 returns : tie.Need-returns Inv-loop μ-loop
 returns c =
@@ -37,8 +40,11 @@ loop-again : tie.Need-loop-again Inv-loop μ-loop
 loop-again c =
     let a = c .before .before .before .before .before .args in
     let h = c .before .before .before .loop in
-    let here = sym (c .before .shares-colour .ensures) ∙ c .if1 .left in
-    (omega arith, h .inv .1 ∙ sought-miss (sharesColour (a .tasks .now)) (h .j) (a .rows) (omega arith) here)
+    let here = sym (c .before .shares-colour .ensures) ∙ c .if1 .left in (
+      omega arith,
+      h .inv .1 ∙ sought-miss (sharesColour (a .tasks .now)) (h .j) (a .rows) (omega arith) here,
+      λ i l. below-or-not i (h .j) (λ m. h .inv .2 i m) (λ m. let same : i ≡ h .j = omega arith in ap (sharesColour (a .tasks .now)) same ∙ here),
+    )
 
 returns-2 : tie.Need-returns-2 Inv-loop μ-loop
 returns-2 c =

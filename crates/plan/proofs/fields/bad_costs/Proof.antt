@@ -1,31 +1,56 @@
--- `plan::fields::bad_costs` meets its contract. The invariant: whether a cost is at fault is asked from `k` on.
-use Prim.Native.Nat.{_-_, _≤_}
+-- `plan::fields::bad_costs` meets its contract. The invariant: whether a cost is at fault is asked from `k` on, and `before` is the cost before or the limit.
+use Prim.Native.Nat.{ℕ, _+_, _-_, _<_, _≤_}
+use native.Mathlib.Nat.{not-suc-le-zero, le-of-suc-le-suc}
 use native.Mathlib.Omega.{arith}
-use mathlib.Core.Path.{_≡_, refl, sym, _∙_}
+use mathlib.Core.Bool.{false}
+use mathlib.Core.Path.{_≡_, refl, sym, ap, _∙_}
+use lib.Dec.{eqb, ltb}
+use borrow.Author.Tests.{ltb-false}
+use borrow.Author.Needs.{needs}
 use Rattle.lists.specs.Range.{from, any}
 use Rattle.lists.proofs.Sought.{anyAhead, any-hit, any-miss, any-end}
-use Rattle.plan.specs.Tests.{badCost}
+use Rattle.lists.proofs.Split.{neither}
+use Rattle.plan.specs.Rows.{costWith}
+use Rattle.plan.specs.Tests.{zeroOrAbove, badCost}
+use Rattle.plan.proofs.Sharing.{cost-test}
 use Rattle.plan.proofs.fields.bad_costs.Statement.{statement}
 use Rattle.plan.proofs.fields.bad_costs.Tie as tie
 
 abbrev Inv-loop : tie.InvT-loop
-Inv-loop tasks row k₀ k = (1 ≤ k) × (k ≤ 17) × (any (badCost tasks row) (from 1 16) ≡ anyAhead (badCost tasks row) k 17)
+Inv-loop tasks row before₀ k₀ before k =
+    (1 ≤ k) × (k ≤ 17) × (any (badCost tasks row) (from 1 16) ≡ anyAhead (badCost tasks row) k 17)
+    × (before ≤ 1000000) × (k ≡ 1 → before ≡ 1000000) × (1 < k → before ≡ costWith tasks row (k - 1))
 
 abbrev μ-loop : tie.MeasureT-loop
-μ-loop tasks row k₀ k = 17 - k
+μ-loop tasks row before₀ k₀ before k = 17 - k
 
 loop-holds : tie.Need-loop-holds Inv-loop μ-loop
 unfolding anyAhead
-loop-holds c = (omega arith, omega arith, refl)
+loop-holds c = (omega arith, omega arith, refl, omega arith, λ e. refl, λ l. absurd (not-suc-le-zero (le-of-suc-le-suc l)))
 
-bad-cost-requires : tie.Need-bad-cost-requires Inv-loop μ-loop
-bad-cost-requires c κs = (omega arith, omega arith)
+-- the test of the code is that of the definition
+asked : (c : tie.After-zero-or-above Inv-loop μ-loop) → badCost (c .before .before .before .before .before .args .tasks .now) (c .before .before .before .before .before .args .row) (c .before .before .before .loop .k) ≡ c .zero-or-above .result
+asked c =
+    let a = c .before .before .before .before .before .args in
+    let h = c .before .before .before .loop in
+    cost-test (h .k) (h .before) (costWith (a .tasks .now) (a .row) (h .k - 1)) (costWith (a .tasks .now) (a .row) (h .k)) (h .inv .0) (h .inv .3) (h .inv .4) (h .inv .5)
+    ∙ ap (zeroOrAbove (h .before)) (sym (c .before .known-word .ensures))
+    ∙ sym (c .zero-or-above .ensures)
+
+add-known-word : tie.Need-add-known-word Inv-loop μ-loop
+add-known-word c = omega arith
+
+known-word-requires : tie.Need-known-word-requires Inv-loop μ-loop
+known-word-requires c κs = omega arith
+
+zero-or-above-requires : tie.Need-zero-or-above-requires Inv-loop μ-loop
+zero-or-above-requires c κs = search needs
 
 returns : tie.Need-returns Inv-loop μ-loop
 returns c =
-    let a = c .before .before .before .before .before .args in
-    let h = c .before .before .before .loop in
-    let here = sym (c .before .bad-cost .ensures) ∙ c .if1 .taken in
+    let a = c .before .before .before .before .before .before .args in
+    let h = c .before .before .before .before .loop in
+    let here = asked (c .before) ∙ c .if1 .taken in
     sym (h .inv .2 ∙ any-hit (badCost (a .tasks .now) (a .row)) (h .k) 17 (omega arith) here)
 
 add-k : tie.Need-add-k Inv-loop μ-loop
@@ -36,10 +61,20 @@ loop-less c = omega arith
 
 loop-again : tie.Need-loop-again Inv-loop μ-loop
 loop-again c =
-    let a = c .before .before .before .before .before .args in
-    let h = c .before .before .before .loop in
-    let here = sym (c .before .bad-cost .ensures) ∙ c .if1 .left in
-    (omega arith, omega arith, h .inv .2 ∙ any-miss (badCost (a .tasks .now) (a .row)) (h .k) 17 (omega arith) here)
+    let a = c .before .before .before .before .before .before .args in
+    let h = c .before .before .before .before .loop in
+    let cost = c .before .before .known-word in
+    let here = asked (c .before) ∙ c .if1 .left in
+    let kept : zeroOrAbove (h .before) (cost .result) ≡ false = sym (c .before .zero-or-above .ensures) ∙ c .if1 .left in
+    let low : cost .result ≤ h .before = ltb-false (h .before) (cost .result) (neither (eqb (cost .result) 0) (ltb (h .before) (cost .result)) kept .1) in
+    let back : h .k + 1 - 1 ≡ h .k = omega arith in (
+      omega arith,
+      omega arith,
+      h .inv .2 ∙ any-miss (badCost (a .tasks .now) (a .row)) (h .k) 17 (omega arith) here,
+      omega (arith, h .inv .3),
+      (λ e. let bad : 1 ≤ 0 = omega (arith, h .inv .0, e) in absurd (not-suc-le-zero bad)),
+      λ l. cost .ensures ∙ ap (costWith (a .tasks .now) (a .row)) (sym back),
+    )
 
 returns-2 : tie.Need-returns-2 Inv-loop μ-loop
 returns-2 c =
@@ -54,7 +89,9 @@ bad-costs-spec =
     Inv-loop
     μ-loop
     loop-holds
-    bad-cost-requires
+    add-known-word
+    known-word-requires
+    zero-or-above-requires
     returns
     add-k
     loop-less

@@ -1,4 +1,5 @@
 -- `plan::fields::bad_task` meets its contract, test by test.
+use native.Mathlib.Omega.{arith}
 use mathlib.Core.Bool.{not, _||_}
 use mathlib.Core.Logic.{⊎-elim}
 use mathlib.Core.Path.{_≡_, refl, sym, ap, _∙_}
@@ -15,26 +16,26 @@ use Rattle.plan.proofs.fields.bad_task.Tie as tie
 
 -- the test of a row in the words that were read
 by-words :
-    (c : tie.After-task-word4)
+    (c : tie.After-known-word4)
     → badTask (c .before .before .before .before .before .before .args .board) (c .before .before .before .before .before .before .args .vcpus .now) (c .before .before .before .before .before .before .args .tasks .now) (c .before .before .before .before .before .before .args .row)
-    ≡ (not (ltb (c .before .before .before .task-word .result) (vcpuRows (c .before .before .before .before .before .before .args .vcpus .now)))
-    || (zeroOrAbove 1000000 (c .before .before .task-word2 .result)
-    || (zeroOrAbove (c .before .before .task-word2 .result) (c .before .task-word3 .result)
-    || (emptyOrOutside (grant (c .before .before .before .before .before .before .args .board) (domain (c .before .before .before .before .before .before .args .vcpus .now) (c .before .before .before .task-word .result))) (c .task-word4 .result)
+    ≡ (not (ltb (c .before .before .before .known-word .result) (vcpuRows (c .before .before .before .before .before .before .args .vcpus .now)))
+    || (zeroOrAbove 1000000 (c .before .before .known-word2 .result)
+    || (zeroOrAbove (c .before .before .known-word2 .result) (c .before .known-word3 .result)
+    || (emptyOrOutside (grant (c .before .before .before .before .before .before .args .board) (domain (c .before .before .before .before .before .before .args .vcpus .now) (c .before .before .before .known-word .result))) (c .known-word4 .result)
     || any (badCost (c .before .before .before .before .before .before .args .tasks .now) (c .before .before .before .before .before .before .args .row)) (from 1 16)))))
-by-words c = rw (c .before .before .before .task-word .ensures, c .before .before .task-word2 .ensures, c .before .task-word3 .ensures, c .task-word4 .ensures) (refl)
+by-words c = rw (c .before .before .before .known-word .ensures, c .before .before .known-word2 .ensures, c .before .known-word3 .ensures, c .known-word4 .ensures) (refl)
 
-task-word-requires : tie.Need-task-word-requires
-task-word-requires c κs = search needs
+known-word-requires : tie.Need-known-word-requires
+known-word-requires c κs = omega arith
 
-task-word-requires-2 : tie.Need-task-word-requires-2
-task-word-requires-2 c κs = search needs
+known-word-requires-2 : tie.Need-known-word-requires-2
+known-word-requires-2 c κs = omega arith
 
-task-word-requires-3 : tie.Need-task-word-requires-3
-task-word-requires-3 c κs = search needs
+known-word-requires-3 : tie.Need-known-word-requires-3
+known-word-requires-3 c κs = omega arith
 
-task-word-requires-4 : tie.Need-task-word-requires-4
-task-word-requires-4 c κs = search needs
+known-word-requires-4 : tie.Need-known-word-requires-4
+known-word-requires-4 c κs = omega arith
 
 cast-if1 : tie.Need-cast-if1
 cast-if1 c = search needs
@@ -82,10 +83,10 @@ pub bad-task-spec : {M : Type 1} → statement M
 bad-task-spec =
     tie.close
     (tie.spec
-    task-word-requires
-    task-word-requires-2
-    task-word-requires-3
-    task-word-requires-4
+    known-word-requires
+    known-word-requires-2
+    known-word-requires-3
+    known-word-requires-4
     cast-if1
     zero-or-above-requires
     returns

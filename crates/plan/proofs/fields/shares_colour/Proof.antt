@@ -1,22 +1,17 @@
--- `plan::fields::shares_colour` meets its contract. The invariant: whether another VCPU's row shares a colour is asked from `k` on.
+-- `plan::fields::shares_colour` meets its contract. The invariant: whether another VCPU's row shares a colour is asked from `k` on, and of the rows after it alone.
 use Prim.Native.Nat.{ℕ, _-_, _≤_}
 use native.Mathlib.Omega.{arith}
-use mathlib.Core.Bool.{Bool, true, false, not, _&&_}
+use mathlib.Core.Bool.{true, false}
 use mathlib.Core.List.{List}
 use mathlib.Core.Logic.{⊎-elim}
 use mathlib.Core.Path.{_≡_, sym, _∙_}
-use lib.Dec.{eqb}
 use borrow.Author.Tests.{eq-eqb, ne-eqb}
-use Rattle.lists.proofs.Sought.{anyAhead, any-start, any-hit, any-miss, any-end}
-use Rattle.board.specs.Tests.{shares}
+use Rattle.lists.proofs.Sought.{anyAhead, any-hit, any-miss, any-end}
 use Rattle.plan.specs.Rows.{vcpuOf, colourSet, taskRows}
 use Rattle.plan.specs.Tests.{sharesColour}
-use borrow.Author.Needs.{needs}
+use Rattle.plan.proofs.Sharing.{sharing, shares-later}
 use Rattle.plan.proofs.fields.shares_colour.Statement.{statement}
 use Rattle.plan.proofs.fields.shares_colour.Tie as tie
-
-abbrev sharing : List ℕ → ℕ → ℕ → Bool
-sharing tasks j k = not (eqb (vcpuOf tasks k) (vcpuOf tasks j)) && shares (colourSet tasks j) (colourSet tasks k)
 
 abbrev Inv-loop : tie.InvT-loop
 Inv-loop tasks rows row vcpu set k₀ k = (k ≤ rows) × (vcpu ≡ vcpuOf tasks row) × (set ≡ colourSet tasks row) × (sharesColour tasks row ≡ anyAhead (sharing tasks row) k (taskRows tasks))
@@ -24,32 +19,36 @@ Inv-loop tasks rows row vcpu set k₀ k = (k ≤ rows) × (vcpu ≡ vcpuOf tasks
 abbrev μ-loop : tie.MeasureT-loop
 μ-loop tasks rows row vcpu set k₀ k = rows - k
 
-task-word-requires : tie.Need-task-word-requires Inv-loop μ-loop
-task-word-requires c κs = search needs
+known-word-requires : tie.Need-known-word-requires Inv-loop μ-loop
+known-word-requires c κs = omega arith
 
-task-word-requires-2 : tie.Need-task-word-requires-2 Inv-loop μ-loop
-task-word-requires-2 c κs = search needs
+known-word-requires-2 : tie.Need-known-word-requires-2 Inv-loop μ-loop
+known-word-requires-2 c κs = omega arith
+
+add-k : tie.Need-add-k Inv-loop μ-loop
+add-k c = omega arith
 
 loop-holds : tie.Need-loop-holds Inv-loop μ-loop
 loop-holds c =
-    let a = c .before .before .before .args in
-    (omega arith, c .before .task-word .ensures, c .task-word2 .ensures, any-start (sharing (a .tasks .now) (a .row)) (taskRows (a .tasks .now)))
+    let s = c .before .before .before in
+    let a = s .args in
+    (omega arith, c .before .known-word .ensures, c .known-word2 .ensures, shares-later (a .tasks .now) (a .row) (omega (arith, s .pre .0, s .pre .1)) (s .pre .2))
 
-task-word-requires-3 : tie.Need-task-word-requires-3 Inv-loop μ-loop
-task-word-requires-3 c κs = search needs
+known-word-requires-3 : tie.Need-known-word-requires-3 Inv-loop μ-loop
+known-word-requires-3 c κs = omega arith
 
-task-word-requires-4 : tie.Need-task-word-requires-4 Inv-loop μ-loop
-task-word-requires-4 c κs = search needs
+known-word-requires-4 : tie.Need-known-word-requires-4 Inv-loop μ-loop
+known-word-requires-4 c κs = omega arith
 
 returns : tie.Need-returns Inv-loop μ-loop
 returns c =
     let a = c .before .before .before .before .before .before .before .before .before .args in
     let h = c .before .before .before .before .before .loop in
-    let here : sharing (a .tasks .now) (a .row) (h .k) ≡ true = simp (← h .inv .1, ← h .inv .2, ← c .before .task-word4 .ensures, ← c .before .before .before .task-word3 .ensures, ne-eqb _ _ (c .before .before .if1 .taken), c .if2 .taken) in
+    let here : sharing (a .tasks .now) (a .row) (h .k) ≡ true = simp (← h .inv .1, ← h .inv .2, ← c .before .known-word4 .ensures, ← c .before .before .before .known-word3 .ensures, ne-eqb _ _ (c .before .before .if1 .taken), c .if2 .taken) in
     sym (h .inv .3 ∙ any-hit (sharing (a .tasks .now) (a .row)) (h .k) (taskRows (a .tasks .now)) (omega arith) here)
 
-add-k : tie.Need-add-k Inv-loop μ-loop
-add-k c = omega arith
+add-k-2 : tie.Need-add-k-2 Inv-loop μ-loop
+add-k-2 c = omega arith
 
 loop-less : tie.Need-loop-less Inv-loop μ-loop
 loop-less c = omega arith
@@ -60,8 +59,8 @@ loop-again c =
     let h = c .before .before .before .loop in
     let here : sharing (a .tasks .now) (a .row) (h .k) ≡ false =
     ⊎-elim
-    (λ w. simp (← h .inv .1, ← h .inv .2, ← w .1 .ensures, ← c .before .task-word3 .ensures, ne-eqb _ _ (w .0 .taken), w .2 .left))
-    (λ w. simp (← h .inv .1, ← c .before .task-word3 .ensures, eq-eqb _ _ (w .left)))
+    (λ w. simp (← h .inv .1, ← h .inv .2, ← w .1 .ensures, ← c .before .known-word3 .ensures, ne-eqb _ _ (w .0 .taken), w .2 .left))
+    (λ w. simp (← h .inv .1, ← c .before .known-word3 .ensures, eq-eqb _ _ (w .left)))
     (c .if1 .came) in
     (omega arith, h .inv .1, h .inv .2, h .inv .3 ∙ any-miss (sharing (a .tasks .now) (a .row)) (h .k) (taskRows (a .tasks .now)) (omega arith) here)
 
@@ -77,13 +76,14 @@ shares-colour-spec =
     (tie.spec
     Inv-loop
     μ-loop
-    task-word-requires
-    task-word-requires-2
-    loop-holds
-    task-word-requires-3
-    task-word-requires-4
-    returns
+    known-word-requires
+    known-word-requires-2
     add-k
+    loop-holds
+    known-word-requires-3
+    known-word-requires-4
+    returns
+    add-k-2
     loop-less
     loop-again
     returns-2)
