@@ -9,13 +9,14 @@ use mathlib.Core.Path.{_≡_, refl, sym, ap, _∙_}
 use lib.Count.{ones}
 use lib.ListN.{length, getD, drop, length-drop}
 use lib.Seq.{length-take-le, getD-take, getD-drop}
-use borrow.Author.Tests.{eqb-true, eq-eqb, not-true, not-false}
-use Rattle.lists.specs.Range.{lowestFrom}
+use borrow.Author.Tests.{eqb-true, eqb-false, eq-eqb, ne-eqb, not-true, not-false}
+use Rattle.lists.specs.Range.{headOr, lowestFrom}
 use Rattle.lists.proofs.Split.{below-or-not}
-use Rattle.lists.proofs.Sought.{sought-start}
-use Rattle.lists.proofs.Found.{found, missed, sought-le}
+use Rattle.lists.proofs.Sought.{sought-start, sought-end}
+use Rattle.lists.proofs.Found.{ahead-past, found, missed, sought-le}
+use Rattle.lists.proofs.Kept.{ahead}
 use Rattle.plan.specs.Rows.{taskWord, vcpuOf, colourSet, cost, colours-shared, taskRows}
-use Rattle.plan.specs.Part.{isRowOf, partStart, partEnd, partOf}
+use Rattle.plan.specs.Part.{isRowOf, partStart, partEnd, endFrom, rowsFrom, partFrom, partOf}
 
 -- the place of a row's first word
 pub at-first : (j : ℕ) → 20 * j + 0 ≡ 20 * j
@@ -25,6 +26,10 @@ at-first j = omega arith
 pub sought-ge : (p : ℕ → Bool) (i n : ℕ) → i ≤ n → i ≤ lowestFrom p i n
 sought-ge p i n l = below-or-not (lowestFrom p i n) n (λ h. found p i n h .low) (λ h. omega arith)
 
+-- nor beyond the rows, wherever it starts
+pub sought-within : (p : ℕ → Bool) (i n : ℕ) → lowestFrom p i n ≤ n
+sought-within p i n = below-or-not i n (λ l. sought-le p i n (omega arith)) (λ l. omega (arith, sought-end p i n l))
+
 module _ (tasks : List ℕ) (v : ℕ) where
   abbrev own : ℕ → Bool
   own j = isRowOf tasks v j
@@ -32,26 +37,36 @@ module _ (tasks : List ℕ) (v : ℕ) where
   abbrev other : ℕ → Bool
   other j = not (isRowOf tasks v j)
 
-  start-sought : partStart tasks v ≡ lowestFrom own 0 (taskRows tasks)
+  pub start-sought : partStart tasks v ≡ lowestFrom own 0 (taskRows tasks)
   unfolding partStart
   start-sought = sought-start own (taskRows tasks)
+
+  -- a search from a row that no row of the VCPU stands before finds the first
+  pub start-from : (i : ℕ) → i ≤ taskRows tasks → ((m : ℕ) → m < i → isRowOf tasks v m ≡ false) → lowestFrom own i (taskRows tasks) ≡ partStart tasks v
+  unfolding lowestFrom ahead
+  start-from i h none =
+      sym (start-sought ∙ ap (headOr (taskRows tasks)) (ahead-past own 0 i (taskRows tasks) (omega arith) h (λ m low high. none m high)))
+
+  pub part-from : (i : ℕ) → lowestFrom own i (taskRows tasks) ≡ partStart tasks v → partFrom tasks i v ≡ partOf tasks v
+  unfolding partFrom partOf
+  part-from i e = ap (λ (s : ℕ). rowsFrom tasks s v) e
 
   pub start-le : partStart tasks v ≤ taskRows tasks
   start-le = rw start-sought (sought-le own 0 (taskRows tasks) (omega arith))
 
   pub start-le-end : partStart tasks v ≤ partEnd tasks v
-  unfolding partEnd
+  unfolding partEnd endFrom
   start-le-end = sought-ge other (partStart tasks v) (taskRows tasks) start-le
 
   pub end-le : partEnd tasks v ≤ taskRows tasks
-  unfolding partEnd
+  unfolding partEnd endFrom
   end-le = sought-le other (partStart tasks v) (taskRows tasks) start-le
 
   within-rows : 20 * partEnd tasks v ≤ length tasks
   within-rows = omega (arith, end-le)
 
   pub part-length : length (partOf tasks v) ≡ 20 * (partEnd tasks v - partStart tasks v)
-  unfolding partOf
+  unfolding partOf rowsFrom partEnd
   part-length =
       let a : ℕ = 20 * partStart tasks v in
       let n : ℕ = 20 * partEnd tasks v - a in
@@ -61,7 +76,7 @@ module _ (tasks : List ℕ) (v : ℕ) where
 
   -- word k of row i of the part is that word of its row in the list
   pub part-word : (i k : ℕ) → i < partEnd tasks v - partStart tasks v → k < 20 → taskWord (partOf tasks v) i k ≡ taskWord tasks (partStart tasks v + i) k
-  unfolding partOf
+  unfolding partOf rowsFrom partEnd
   part-word i k l h =
       let a : ℕ = 20 * partStart tasks v in
       let n : ℕ = 20 * partEnd tasks v - a in
@@ -73,7 +88,7 @@ module _ (tasks : List ℕ) (v : ℕ) where
 
   -- every row of the part is the VCPU's own
   pub part-own : (i : ℕ) → i < partEnd tasks v - partStart tasks v → vcpuOf tasks (partStart tasks v + i) ≡ v
-  unfolding partEnd
+  unfolding partEnd endFrom
   part-own i l =
       let s : ℕ = partStart tasks v in
       let n : ℕ = taskRows tasks in
@@ -113,7 +128,7 @@ module _ (tasks : List ℕ) (ascending : Ascending tasks) where
 
   -- a row of a VCPU lies in that VCPU's part
   pub row-in-part : (j : ℕ) → j < taskRows tasks → (partStart tasks (vcpuOf tasks j) ≤ j) × (j < partEnd tasks (vcpuOf tasks j))
-  unfolding partEnd
+  unfolding partEnd endFrom
   row-in-part j h =
       let v : ℕ = vcpuOf tasks j in
       let n : ℕ = taskRows tasks in
@@ -140,3 +155,15 @@ module _ (tasks : List ℕ) (ascending : Ascending tasks) where
       let same : vcpuOf tasks e ≡ v = omega (arith, up, on, eqb-true (vcpuOf tasks s) v first) in
       absurd (false≢true (sym (not-true (p e) (next .passes)) ∙ eq-eqb (vcpuOf tasks e) v same))) in
       (low, high)
+
+  -- no row before the part of a row's VCPU is of a VCPU that a row from it on names
+  pub before-part : (j k m : ℕ) → j ≤ k → k < taskRows tasks → m < partStart tasks (vcpuOf tasks j) → isRowOf tasks (vcpuOf tasks k) m ≡ false
+  before-part j k m l h b =
+      let v : ℕ = vcpuOf tasks j in
+      let n : ℕ = taskRows tasks in
+      let low = row-in-part j (omega arith) .0 in
+      let at : partStart tasks v ≡ lowestFrom (own tasks v) 0 n = start-sought tasks v in
+      let off = eqb-false (vcpuOf tasks m) v (found (own tasks v) 0 n (omega (arith, low, at)) .before m (omega arith) (rw at at b)) in
+      let up = never-lower m j (omega (arith, low)) (omega arith) in
+      let on = never-lower j k l h in
+      ne-eqb (vcpuOf tasks m) (vcpuOf tasks k) (λ e. off (omega (arith, up, on, e)))

@@ -7,7 +7,9 @@ mod own_rows;
 mod rows;
 
 pub use check::check_plan;
+pub use own_rows::next_own;
 pub use own_rows::part;
+pub use own_rows::part_from;
 pub use own_rows::part_start;
 pub use rows::cost;
 pub use rows::shared;

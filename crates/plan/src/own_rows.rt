@@ -6,23 +6,30 @@ ghost use mathlib.Core.Bool.{not};
 ghost use Prim.Native.Nat.{_≤_};
 ghost use Rattle.lists.specs.Range.{lowestFrom};
 ghost use Rattle.plan.specs.Rows.{taskRows};
-ghost use Rattle.plan.specs.Part.{isRowOf, partStart, partOf};
+ghost use Rattle.plan.specs.Part.{isRowOf, partStart, partFrom, partOf};
 
 const TASK_WORDS: usize = 20;
 
-// The VCPU's first row, or the number of rows where it has none.
-pub fn part_start(tasks: &[u32], vcpu: u32) -> usize
-    ensures { λ r. ⌜ r ≡ partStart (now (tasks .entry)) vcpu ⌝ }
+// The next row of the VCPU from a row on, or the number of rows where there is none.
+pub fn next_own(tasks: &[u32], from: usize, vcpu: u32) -> usize
+    ensures { λ r. ⌜ r ≡ lowestFrom (isRowOf (now (tasks .entry)) vcpu) from (taskRows (now (tasks .entry))) ⌝ }
 {
     let rows = tasks.len() / TASK_WORDS;
-    let mut j: usize = 0;
+    let mut j = from;
     while j < rows {
         if tasks[TASK_WORDS * j] == vcpu {
             return j;
         }
         j += 1;
     }
-    j
+    rows
+}
+
+// The VCPU's first row, or the number of rows where it has none.
+pub fn part_start(tasks: &[u32], vcpu: u32) -> usize
+    ensures { λ r. ⌜ r ≡ partStart (now (tasks .entry)) vcpu ⌝ }
+{
+    next_own(tasks, 0, vcpu)
 }
 
 // The next row of another VCPU from a row on, or the number of rows where there is none.
@@ -41,12 +48,19 @@ fn next_other(tasks: &[u32], start: usize, vcpu: u32) -> usize
     j
 }
 
-pub fn part(tasks: &[u32], vcpu: u32) -> &[u32]
-    ensures { λ r. ⌜ now r ≡ partOf (now (tasks .entry)) vcpu ⌝ }
+// The VCPU's next rows side by side, from a row on.
+pub fn part_from(tasks: &[u32], from: usize, vcpu: u32) -> &[u32]
+    ensures { λ r. ⌜ now r ≡ partFrom (now (tasks .entry)) from vcpu ⌝ }
 {
-    let start = part_start(tasks, vcpu);
+    let start = next_own(tasks, from, vcpu);
     let end = next_other(tasks, start, vcpu);
     let first = TASK_WORDS * start;
     let last = TASK_WORDS * end;
     &tasks[first..last]
+}
+
+pub fn part(tasks: &[u32], vcpu: u32) -> &[u32]
+    ensures { λ r. ⌜ now r ≡ partOf (now (tasks .entry)) vcpu ⌝ }
+{
+    part_from(tasks, 0, vcpu)
 }

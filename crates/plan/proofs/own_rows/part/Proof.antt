@@ -1,64 +1,17 @@
--- `plan::own_rows::part` meets its contract: both ends of the part lie within the whole rows.
-use Prim.Native.Nat.{ℕ, _≤_}
-use native.Mathlib.Omega.{arith}
-use mathlib.Core.Bool.{Bool, not}
-use Rattle.lists.proofs.Found.{sought-le}
-use Rattle.plan.specs.Rows.{taskRows}
-use Rattle.plan.specs.Part.{isRowOf, partEnd, partOf}
-use Rattle.plan.proofs.Parts.{start-le, sought-ge}
+-- `plan::own_rows::part` meets its contract: from row 0 on, the next rows of the VCPU are its part.
+use mathlib.Core.Path.{sym, _∙_}
+use Rattle.plan.proofs.Parts.{start-sought, part-from}
 use borrow.Author.Needs.{needs}
 use Rattle.plan.proofs.own_rows.part.Statement.{statement}
 use Rattle.plan.proofs.own_rows.part.Tie as tie
 
-abbrev other : tie.After-next-other → ℕ → Bool
-other c j = not (isRowOf (c .before .before .before .args .tasks .now) (c .before .before .before .args .vcpu) j)
-
-start : (c : tie.After-part-start) → c .part-start .result ≤ taskRows (c .before .before .args .tasks .now)
-start c = rw (c .part-start .ensures) (start-le (c .before .before .args .tasks .now) (c .before .before .args .vcpu))
-
-end : (c : tie.After-next-other) → (c .before .part-start .result ≤ c .next-other .result) × (c .next-other .result ≤ taskRows (c .before .before .before .args .tasks .now))
-end c =
-    rw (c .next-other .ensures)
-    (sought-ge (other c) (c .before .part-start .result) _ (start (c .before)), sought-le (other c) (c .before .part-start .result) _ (start (c .before)))
-
-part-start-requires : tie.Need-part-start-requires
-part-start-requires c κs = search needs
-
-next-other-requires : tie.Need-next-other-requires
-next-other-requires c κs = start c
-
-mul-first : tie.Need-mul-first
-mul-first c = omega (arith, start (c .before), end c)
-
-mul-last : tie.Need-mul-last
-mul-last c = omega (arith, start (c .before), end c)
-
-mul-result : tie.Need-mul-result
-mul-result c = omega (arith, start (c .before), end c)
-
-sub-result : tie.Need-sub-result
-sub-result c = omega (arith, start (c .before), end c)
-
-part-result-start : tie.Need-part-result-start
-part-result-start c = omega (arith, start (c .before), end c)
-
-part-result-end : tie.Need-part-result-end
-part-result-end c = omega (arith, start (c .before), end c)
+part-from-requires : tie.Need-part-from-requires
+part-from-requires c κs = search needs
 
 returns : tie.Need-returns
-unfolding partOf partEnd
-returns c = rw (c .before .next-other .ensures, c .before .before .part-start .ensures)
+returns c =
+    let a = c .before .before .args in
+    c .part-from .ensures ∙ part-from (a .tasks .now) (a .vcpu) 0 (sym (start-sought (a .tasks .now) (a .vcpu)))
 
 pub part-spec : {M : Type 1} → statement M
-part-spec =
-    tie.close
-    (tie.spec
-    part-start-requires
-    next-other-requires
-    mul-first
-    mul-last
-    mul-result
-    sub-result
-    part-result-start
-    part-result-end
-    returns)
+part-spec = tie.close (tie.spec part-from-requires returns)

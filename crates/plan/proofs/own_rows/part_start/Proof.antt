@@ -1,81 +1,15 @@
--- `plan::own_rows::part_start` meets its contract. The invariant: the first row is looked for from `j` on.
-use Prim.Native.Nat.{ℕ, _-_, _≤_}
-use native.Mathlib.Omega.{arith}
-use mathlib.Core.Bool.{true, false}
-use mathlib.Core.List.{List}
-use mathlib.Core.Path.{_≡_, refl, sym, ap, _∙_}
-use lib.Dec.{eqb}
-use lib.ListN.{getD}
-use borrow.Author.Tests.{eq-eqb, ne-eqb}
-use Rattle.lists.specs.Range.{lowestFrom}
-use Rattle.lists.proofs.Sought.{sought-start, sought-hit, sought-miss, sought-end}
-use Rattle.plan.specs.Rows.{taskRows}
-use Rattle.plan.specs.Part.{isRowOf, partStart}
-use Rattle.plan.proofs.Parts.{at-first}
+-- `plan::own_rows::part_start` meets its contract: the first row is the next one from row 0 on.
+use mathlib.Core.Path.{sym, _∙_}
+use Rattle.plan.proofs.Parts.{start-sought}
+use borrow.Author.Needs.{needs}
 use Rattle.plan.proofs.own_rows.part_start.Statement.{statement}
 use Rattle.plan.proofs.own_rows.part_start.Tie as tie
 
-abbrev Inv-loop : tie.InvT-loop
-Inv-loop tasks vcpu rows j₀ j = (rows ≡ taskRows tasks) × (j ≤ taskRows tasks) × (partStart tasks vcpu ≡ lowestFrom (isRowOf tasks vcpu) j (taskRows tasks))
+next-own-requires : tie.Need-next-own-requires
+next-own-requires c κs = search needs
 
-abbrev μ-loop : tie.MeasureT-loop
-μ-loop tasks vcpu rows j₀ j = rows - j
-
-loop-holds : tie.Need-loop-holds Inv-loop μ-loop
-unfolding partStart
-loop-holds c = (refl, omega arith, sought-start (isRowOf (c .args .tasks .now) (c .args .vcpu)) (taskRows (c .args .tasks .now)))
-
-mul-if1 : tie.Need-mul-if1 Inv-loop μ-loop
-mul-if1 c = omega arith
-
-mul-if1-2 : tie.Need-mul-if1-2 Inv-loop μ-loop
-mul-if1-2 c = omega arith
-
-shared-slice-read-if1 : tie.Need-shared-slice-read-if1 Inv-loop μ-loop
-shared-slice-read-if1 c = omega arith
-
-returns : tie.Need-returns Inv-loop μ-loop
-returns c =
-    let a = c .before .before .before .before .args in
-    let t : List ℕ = a .tasks .now in
-    let h = c .before .before .before .loop in
-    let here : isRowOf t (a .vcpu) (h .j) ≡ true = ap (λ (k : ℕ). eqb (getD t k 0) (a .vcpu)) (at-first (h .j)) ∙ eq-eqb _ _ (c .if1 .taken) in
-    sym (h .inv .2 ∙ sought-hit (isRowOf t (a .vcpu)) (h .j) (taskRows t) (omega arith) here)
-
-add-j : tie.Need-add-j Inv-loop μ-loop
-add-j c = omega arith
-
-loop-less : tie.Need-loop-less Inv-loop μ-loop
-loop-less c = omega arith
-
-loop-again : tie.Need-loop-again Inv-loop μ-loop
-loop-again c =
-    let a = c .before .before .before .before .args in
-    let t : List ℕ = a .tasks .now in
-    let h = c .before .before .before .loop in
-    let here : isRowOf t (a .vcpu) (h .j) ≡ false = ap (λ (k : ℕ). eqb (getD t k 0) (a .vcpu)) (at-first (h .j)) ∙ ne-eqb _ _ (c .if1 .left) in
-    (h .inv .0, omega arith, h .inv .2 ∙ sought-miss (isRowOf t (a .vcpu)) (h .j) (taskRows t) (omega arith) here)
-
-returns-2 : tie.Need-returns-2 Inv-loop μ-loop
-returns-2 c =
-    let a = c .before .before .args in
-    let t : List ℕ = a .tasks .now in
-    let h = c .before .loop in
-    let done : h .j ≡ taskRows t = omega arith in
-    done ∙ sym (h .inv .2 ∙ sought-end (isRowOf t (a .vcpu)) (h .j) (taskRows t) (omega arith))
+returns : tie.Need-returns
+returns c = c .next-own .ensures ∙ sym (start-sought (c .before .before .args .tasks .now) (c .before .before .args .vcpu))
 
 pub part-start-spec : {M : Type 1} → statement M
-part-start-spec =
-    tie.close
-    (tie.spec
-    Inv-loop
-    μ-loop
-    loop-holds
-    mul-if1
-    mul-if1-2
-    shared-slice-read-if1
-    returns
-    add-j
-    loop-less
-    loop-again
-    returns-2)
+part-start-spec = tie.close (tie.spec next-own-requires returns)
