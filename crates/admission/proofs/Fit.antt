@@ -2,10 +2,12 @@
 use Prim.Native.Nat.{ℕ, _+_, _-_, _<_, _≤_}
 use native.Mathlib.Omega.{arith}
 use mathlib.Core.List.{List}
+use mathlib.Core.Path.{_≡_, refl}
 use Rattle.supply.specs.Supply.{Budget}
 use Rattle.plan.specs.Rows.{vcpuPeriod, budget, vcpuOf, taskRows}
 use Rattle.plan.specs.Part.{partStart, partEnd, partOf}
 use Rattle.plan.proofs.Parts.{part-length, part-word, row-in-part}
+use Rattle.times.specs.Times.{timeInPart, taskTime}
 use Rattle.times.specs.Valid.{TaskRows, Plan}
 use Rattle.times.proofs.PartRows.{part-row}
 
@@ -31,3 +33,14 @@ fit reload vcpus tasks plan j h =
         row = λ i l. part-row tasks (partOf tasks v) s n (part-word tasks v) (part-length tasks v) i (omega (arith, within .0, within .1)) (plan .task (s + i) (omega (arith, within .0)));
       };
     }
+
+-- the same of numbers that are those of the row: its VCPU's period and budget, its part and where that starts
+module _ (vcpus tasks own : List ℕ) (j v p q start : ℕ)
+    (hv : v ≡ vcpuOf tasks j) (hp : p ≡ vcpuPeriod vcpus v) (hq : q ≡ budget vcpus v)
+    (ho : own ≡ partOf tasks (vcpuOf tasks j)) (hs : start ≡ partStart tasks (vcpuOf tasks j)) where
+  pub fit-read : Fit vcpus tasks j → Budget p q × (p ≤ 1000000) × TaskRows own (j - start)
+  fit-read f = rw (hp, hq, hv, ho, hs) (f .budgeted, f .period, f .rows)
+
+  pub time-read : (reload : ℕ) → timeInPart p q reload own (j - start) ≡ taskTime reload vcpus tasks j
+  unfolding taskTime
+  time-read reload = rw (hp, hq, hv, ho, hs) refl

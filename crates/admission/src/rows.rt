@@ -5,7 +5,8 @@ ghost use mathlib.Core.List.{map, _++_};
 ghost use Prim.Native.Nat.{_+_, _≤_, _<_};
 ghost use lib.ListN.{length, take, drop};
 ghost use Rattle.lists.specs.Range.{lowest, upto};
-ghost use Rattle.plan.specs.Rows.{vcpuRows, taskRows};
+ghost use Rattle.plan.specs.Rows.{vcpuRows, taskRows, vcpuOf};
+ghost use Rattle.plan.specs.Part.{partStart};
 ghost use Rattle.times.specs.Times.{vcpuTime, taskTime as taskTimeOf};
 ghost use Rattle.times.specs.Valid.{Plan};
 ghost use Rattle.admission.specs.Admission.{isLate, microseconds};
@@ -13,8 +14,8 @@ ghost use Rattle.admission.specs.Paper.{paperFound};
 use crate::search::Found;
 use crate::search::time_in_part;
 use crate::search::vcpu_time;
-use plan::part;
-use plan::part_start;
+use plan::next_own;
+use plan::part_from;
 use plan::task_word;
 use plan::vcpu_word;
 
@@ -41,24 +42,24 @@ pub(crate) fn vcpu_times(reload: u32, vcpus: &[u32], tasks: &[u32], rows: u32) -
     Times { late: i, found }
 }
 
-// The time of a row of the task list, over the part of its VCPU alone.
-fn task_time(reload: u32, vcpus: &[u32], tasks: &[u32], j: u32) -> Found
-    requires { ⌜ Plan reload (now vcpus) (now tasks) × (j < taskRows (now tasks)) ⌝ }
+// The time of a row of the task list, over the part of its VCPU alone, which starts at a known row.
+fn task_time(reload: u32, vcpus: &[u32], tasks: &[u32], start: usize, j: u32) -> Found
+    requires { ⌜ Plan reload (now vcpus) (now tasks) × (j < taskRows (now tasks)) × (start ≡ partStart (now tasks) (vcpuOf (now tasks) j)) ⌝ }
     ensures { λ r. ⌜ paperFound r ≡ taskTimeOf reload (now (vcpus .entry)) (now (tasks .entry)) j ⌝ }
 {
     let v = task_word(tasks, j, 0);
-    let start = part_start(tasks, v) as u32;
-    let own = part(tasks, v);
+    let own = part_from(tasks, start, v);
     time_in_part(
         vcpu_word(vcpus, v, 2),
         vcpu_word(vcpus, v, 3),
         reload,
         own,
-        j - start,
+        j - start as u32,
     )
 }
 
-// The tasks' times stand after the `first` that are known.
+// The tasks' times stand after the `first` that are known. Rows stand in ascending VCPU, so that the part
+// of a row is looked for from that of the row before.
 pub(crate) fn task_times(
     reload: u32,
     vcpus: &[u32],
@@ -71,9 +72,11 @@ pub(crate) fn task_times(
 {
     let rows = (tasks.len() / 20) as u32;
     let mut found = known;
+    let mut start = 0;
     let mut j: u32 = 0;
     while j < rows {
-        let Found::At(time) = task_time(reload, vcpus, tasks, j) else {
+        start = next_own(tasks, start, task_word(tasks, j, 0));
+        let Found::At(time) = task_time(reload, vcpus, tasks, start, j) else {
             return Times { late: j, found };
         };
         let k = (first + j) as usize;

@@ -16,7 +16,7 @@ use Rattle.lists.proofs.Sought.{sought-start, sought-end}
 use Rattle.lists.proofs.Found.{ahead-past, found, missed, sought-le}
 use Rattle.lists.proofs.Kept.{ahead}
 use Rattle.plan.specs.Rows.{taskWord, vcpuOf, colourSet, cost, colours-shared, taskRows}
-use Rattle.plan.specs.Part.{isRowOf, partStart, partEnd, endFrom, rowsFrom, partFrom, partOf}
+use Rattle.plan.specs.Part.{isRowOf, partStart, partEnd, rowsFrom, partFrom, partOf}
 
 -- the place of a row's first word
 pub at-first : (j : ℕ) → 20 * j + 0 ≡ 20 * j
@@ -48,25 +48,35 @@ module _ (tasks : List ℕ) (v : ℕ) where
       sym (start-sought ∙ ap (headOr (taskRows tasks)) (ahead-past own 0 i (taskRows tasks) (omega arith) h (λ m low high. none m high)))
 
   pub part-from : (i : ℕ) → lowestFrom own i (taskRows tasks) ≡ partStart tasks v → partFrom tasks i v ≡ partOf tasks v
-  unfolding partFrom partOf
+  unfolding partFrom partOf partEnd rowsFrom
   part-from i e = ap (λ (s : ℕ). rowsFrom tasks s v) e
+
+  -- no row before the part is the VCPU's
+  pub none-before : (m : ℕ) → m < partStart tasks v → isRowOf tasks v m ≡ false
+  none-before m h =
+      let n : ℕ = taskRows tasks in
+      let l : m < lowestFrom own 0 n = rw start-sought at h in
+      below-or-not (lowestFrom own 0 n) n (λ g. found own 0 n g .before m (omega arith) l) (λ g. missed own 0 n g m (omega arith) (omega (arith, sought-le own 0 n (omega arith))))
 
   pub start-le : partStart tasks v ≤ taskRows tasks
   start-le = rw start-sought (sought-le own 0 (taskRows tasks) (omega arith))
 
   pub start-le-end : partStart tasks v ≤ partEnd tasks v
-  unfolding partEnd endFrom
+  unfolding partEnd
   start-le-end = sought-ge other (partStart tasks v) (taskRows tasks) start-le
 
   pub end-le : partEnd tasks v ≤ taskRows tasks
-  unfolding partEnd endFrom
+  unfolding partEnd
   end-le = sought-le other (partStart tasks v) (taskRows tasks) start-le
+
+  pub part-at-start : partFrom tasks (partStart tasks v) v ≡ partOf tasks v
+  part-at-start = part-from (partStart tasks v) (start-from (partStart tasks v) start-le none-before)
 
   within-rows : 20 * partEnd tasks v ≤ length tasks
   within-rows = omega (arith, end-le)
 
   pub part-length : length (partOf tasks v) ≡ 20 * (partEnd tasks v - partStart tasks v)
-  unfolding partOf rowsFrom partEnd
+  unfolding partOf
   part-length =
       let a : ℕ = 20 * partStart tasks v in
       let n : ℕ = 20 * partEnd tasks v - a in
@@ -76,7 +86,7 @@ module _ (tasks : List ℕ) (v : ℕ) where
 
   -- word k of row i of the part is that word of its row in the list
   pub part-word : (i k : ℕ) → i < partEnd tasks v - partStart tasks v → k < 20 → taskWord (partOf tasks v) i k ≡ taskWord tasks (partStart tasks v + i) k
-  unfolding partOf rowsFrom partEnd
+  unfolding partOf
   part-word i k l h =
       let a : ℕ = 20 * partStart tasks v in
       let n : ℕ = 20 * partEnd tasks v - a in
@@ -88,7 +98,7 @@ module _ (tasks : List ℕ) (v : ℕ) where
 
   -- every row of the part is the VCPU's own
   pub part-own : (i : ℕ) → i < partEnd tasks v - partStart tasks v → vcpuOf tasks (partStart tasks v + i) ≡ v
-  unfolding partEnd endFrom
+  unfolding partEnd
   part-own i l =
       let s : ℕ = partStart tasks v in
       let n : ℕ = taskRows tasks in
@@ -128,7 +138,7 @@ module _ (tasks : List ℕ) (ascending : Ascending tasks) where
 
   -- a row of a VCPU lies in that VCPU's part
   pub row-in-part : (j : ℕ) → j < taskRows tasks → (partStart tasks (vcpuOf tasks j) ≤ j) × (j < partEnd tasks (vcpuOf tasks j))
-  unfolding partEnd endFrom
+  unfolding partEnd
   row-in-part j h =
       let v : ℕ = vcpuOf tasks j in
       let n : ℕ = taskRows tasks in
@@ -160,10 +170,8 @@ module _ (tasks : List ℕ) (ascending : Ascending tasks) where
   pub before-part : (j k m : ℕ) → j ≤ k → k < taskRows tasks → m < partStart tasks (vcpuOf tasks j) → isRowOf tasks (vcpuOf tasks k) m ≡ false
   before-part j k m l h b =
       let v : ℕ = vcpuOf tasks j in
-      let n : ℕ = taskRows tasks in
       let low = row-in-part j (omega arith) .0 in
-      let at : partStart tasks v ≡ lowestFrom (own tasks v) 0 n = start-sought tasks v in
-      let off = eqb-false (vcpuOf tasks m) v (found (own tasks v) 0 n (omega (arith, low, at)) .before m (omega arith) (rw at at b)) in
+      let off = eqb-false (vcpuOf tasks m) v (none-before tasks v m b) in
       let up = never-lower m j (omega (arith, low)) (omega arith) in
       let on = never-lower j k l h in
       ne-eqb (vcpuOf tasks m) (vcpuOf tasks k) (λ e. off (omega (arith, up, on, e)))

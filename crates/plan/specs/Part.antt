@@ -16,20 +16,15 @@ isRowOf tasks v j = eqb (vcpuOf tasks j) v
 unfoldable pub partStart : List ℕ → ℕ → ℕ
 partStart tasks v = lowest (isRowOf tasks v) (taskRows tasks)
 
--- the next row of another VCPU, from a row on
-unfoldable pub endFrom : List ℕ → ℕ → ℕ → ℕ
-endFrom tasks s v = lowestFrom (λ (j : ℕ). not (isRowOf tasks v j)) s (taskRows tasks)
-
 unfoldable pub partEnd : List ℕ → ℕ → ℕ
-partEnd tasks v = endFrom tasks (partStart tasks v) v
-
--- the rows from s up to the next row of another VCPU
-unfoldable pub rowsFrom : List ℕ → ℕ → ℕ → List ℕ
-rowsFrom tasks s v = take (20 * endFrom tasks s v - 20 * s) (drop (20 * s) tasks)
+partEnd tasks v = lowestFrom (λ (j : ℕ). not (isRowOf tasks v j)) (partStart tasks v) (taskRows tasks)
 
 unfoldable pub partOf : List ℕ → ℕ → List ℕ
-partOf tasks v = rowsFrom tasks (partStart tasks v) v
+partOf tasks v = take (20 * partEnd tasks v - 20 * partStart tasks v) (drop (20 * partStart tasks v) tasks)
 
--- the VCPU's next rows side by side, from a row on
+-- the same from a row on: the rows from s up to the next row of another VCPU, where s is the VCPU's next row
+unfoldable pub rowsFrom : List ℕ → ℕ → ℕ → List ℕ
+rowsFrom tasks s v = take (20 * lowestFrom (λ (j : ℕ). not (isRowOf tasks v j)) s (taskRows tasks) - 20 * s) (drop (20 * s) tasks)
+
 unfoldable pub partFrom : List ℕ → ℕ → ℕ → List ℕ
 partFrom tasks i v = rowsFrom tasks (lowestFrom (isRowOf tasks v) i (taskRows tasks)) v

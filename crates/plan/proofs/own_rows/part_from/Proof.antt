@@ -4,7 +4,7 @@ use native.Mathlib.Omega.{arith}
 use mathlib.Core.Bool.{Bool, not}
 use Rattle.lists.proofs.Found.{sought-le}
 use Rattle.plan.specs.Rows.{taskRows}
-use Rattle.plan.specs.Part.{isRowOf, endFrom, rowsFrom, partFrom}
+use Rattle.plan.specs.Part.{isRowOf, rowsFrom, partFrom}
 use Rattle.plan.proofs.Parts.{sought-within, sought-ge}
 use borrow.Author.Needs.{needs}
 use Rattle.plan.proofs.own_rows.part_from.Statement.{statement}
@@ -46,7 +46,7 @@ part-result-end : tie.Need-part-result-end
 part-result-end c = omega (arith, start (c .before), end c)
 
 returns : tie.Need-returns
-unfolding partFrom rowsFrom endFrom
+unfolding partFrom rowsFrom
 returns c = rw (c .before .next-other .ensures, c .before .before .next-own .ensures)
 
 pub part-from-spec : {M : Type 1} → statement M
