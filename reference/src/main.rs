@@ -1,28 +1,16 @@
-//! The separate tool: the recorder's rules written anew from the papers, without a look at the proved
-//! code. It writes the vectors that the programs `vectors_*` answer, or checks those in the tree; and it
-//! runs random histories of the five calls against the domain rule.
-
-mod boards;
-mod cache;
-mod frames;
-mod history;
-mod plans;
-mod random;
-mod random_plans;
-mod reply;
-mod vectors;
+//! The separate tool's command. It writes the vectors that the programs `vectors_*` answer, or checks
+//! those in the tree; and it runs random histories of the five calls against the domain rule.
 
 use std::path::Path;
 use std::process::ExitCode;
+
+use reference::{history, vectors, SEED};
 
 const USAGE: &str =
     "usage: reference write DIR [SEED] | reference check DIR | reference histories [SEED]
   write      writes DIR/vectors_*/stdin and stdout; another seed gives other random cases
   check      says whether those files are what `write` would write today
   histories  runs random histories of the frame calls and says whether the domain rule holds of them";
-
-/// The seed of the vectors in the tree.
-const SEED: u64 = 2003;
 
 /// Pairs of histories that `histories` compares.
 const PAIRS: u32 = 10_000;
