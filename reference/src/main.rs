@@ -1,16 +1,20 @@
 //! The separate tool's command. It writes the vectors that the programs `vectors_*` answer, or checks
-//! those in the tree; and it runs random histories of the five calls against the domain rule.
+//! those in the tree; it runs random histories of the five calls against the domain rule; and it answers
+//! as the program `admit` does.
 
+use std::io::{self, Read, Write};
 use std::path::Path;
 use std::process::ExitCode;
 
-use reference::{history, vectors, SEED};
+use reference::{admit, history, vectors, SEED};
 
 const USAGE: &str =
     "usage: reference write DIR [SEED] | reference check DIR | reference histories [SEED]
+       reference admit
   write      writes DIR/vectors_*/stdin and stdout; another seed gives other random cases
   check      says whether those files are what `write` would write today
-  histories  runs random histories of the frame calls and says whether the domain rule holds of them";
+  histories  runs random histories of the frame calls and says whether the domain rule holds of them
+  admit      reads a plan from standard input and prints what the program `admit` prints";
 
 /// Pairs of histories that `histories` compares.
 const PAIRS: u32 = 10_000;
@@ -24,6 +28,7 @@ fn main() -> ExitCode {
         ["check", dir] => Some(check(dir)),
         ["histories"] => Some(histories(SEED)),
         ["histories", seed] => seed.parse().ok().map(histories),
+        ["admit"] => Some(answer()),
         _ => None,
     };
     match good {
@@ -58,4 +63,11 @@ fn histories(seed: u64) -> bool {
     let tally = history::check(seed, PAIRS);
     tally.report();
     tally.good()
+}
+
+fn answer() -> bool {
+    let mut input = Vec::new();
+    let read = io::stdin().lock().read_to_end(&mut input);
+    let verdict = admit::judge(&input).to_string();
+    read.is_ok() && io::stdout().write_all(verdict.as_bytes()).is_ok()
 }

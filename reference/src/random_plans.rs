@@ -3,10 +3,10 @@
 
 use crate::boards::{accepted, part_of};
 use crate::cache::colours;
-use crate::frames::{unfit, Board};
+use crate::frames::{unfit, Board, DOMAINS, FRAMES};
 use crate::plans::{
-    part, task_time, tasks, vcpu_time, vcpus, Plan, Vcpu, CORES, LONGEST, RELOAD, TASK_WORDS,
-    VCPU_WORDS,
+    part, task_time, tasks, vcpu_time, vcpus, Plan, Vcpu, CORES, LONGEST, RELOAD, TASKS,
+    TASK_WORDS, VCPUS, VCPU_WORDS,
 };
 use crate::random::Random;
 
@@ -19,22 +19,42 @@ pub const VCPU_BUDGET: usize = 3;
 
 /// A plan of that many VCPUs and task rows in which each has a time.
 pub fn admitted(random: &mut Random, vcpu_count: usize, task_count: usize) -> Plan {
+    first_admitted(random, vcpu_count, task_count, any_board)
+}
+
+/// An admitted plan with as many domains, VCPUs and tasks as there may be.
+pub fn largest(random: &mut Random) -> Plan {
+    first_admitted(random, VCPUS, TASKS, |random| {
+        accepted(random, 16, FRAMES, DOMAINS as u32)
+    })
+}
+
+fn first_admitted(
+    random: &mut Random,
+    vcpu_count: usize,
+    task_count: usize,
+    board: impl Fn(&mut Random) -> Board,
+) -> Plan {
     // a draw may leave a row without a time, whatever its cost
     for _ in 0..1000 {
-        if let Some(plan) = draw(random, vcpu_count, task_count) {
+        let board = board(random);
+        if let Some(plan) = draw(random, board, vcpu_count, task_count) {
             return plan;
         }
     }
     panic!("no draw of {vcpu_count} VCPUs and {task_count} tasks is admitted");
 }
 
-fn draw(random: &mut Random, vcpu_count: usize, task_count: usize) -> Option<Plan> {
+fn any_board(random: &mut Random) -> Board {
     let n = random.pick(&[1, 2, 4, 8, 16, 16, 16]);
     let domains = 1 + random.below(n.min(8)) as u32;
     let frames = 1 + random.below(4096) as u32;
     let frames = random.pick(&[1, 64, 4096, frames, frames]);
-    let board = accepted(random, n as u32, frames, domains);
-    let rows = any_vcpus(random, domains, vcpu_count, task_count);
+    accepted(random, n as u32, frames, domains)
+}
+
+fn draw(random: &mut Random, board: Board, vcpu_count: usize, task_count: usize) -> Option<Plan> {
+    let rows = any_vcpus(random, board.domains, vcpu_count, task_count);
     let sets = own_colours(random, &board, &rows);
     let holders: Vec<usize> = (0..vcpu_count).filter(|row| sets[*row] != 0).collect();
     let mut names: Vec<usize> = (0..task_count).map(|_| random.pick(&holders)).collect();
