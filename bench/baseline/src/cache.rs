@@ -25,6 +25,7 @@ fn colour_at(colours: u32, set: u32, place: u32) -> u32 {
 }
 
 #[inline(never)]
+#[export_name = "baseline_layout"]
 pub fn layout(colours: u32, set: u32, index: u32) -> Result<u32, Refusal> {
     check_set(colours, set)?;
     demand(index < 1 << 24, 10, 0)?;
@@ -33,6 +34,7 @@ pub fn layout(colours: u32, set: u32, index: u32) -> Result<u32, Refusal> {
 }
 
 #[inline(never)]
+#[export_name = "baseline_bleach"]
 pub fn bleach(colours: u32, set: u32, page: u32) -> Result<u32, Refusal> {
     check_set(colours, set)?;
     demand(page < 1 << 28, 10, 0)?;

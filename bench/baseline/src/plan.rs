@@ -76,7 +76,7 @@ impl<'a> Rows<'a> {
     #[inline]
     fn fit(self, most: usize) -> bool {
         let length = self.words.len();
-        length > 0 && length <= most * self.width && length % self.width == 0
+        length > 0 && length <= most * self.width && length.is_multiple_of(self.width)
     }
 }
 
@@ -186,72 +186,75 @@ fn task_time_keeping(vcpu: &[u32], reload: u32, part: Rows, place: usize) -> Opt
     })
 }
 
-type TaskTime = fn(&[u32], u32, Rows, usize) -> Option<u32>;
+/// A list of words, and how many make a row.
+fn rows(words: &[u32], width: usize) -> Rows<'_> {
+    Rows { words, width }
+}
 
-/// The task times of one VCPU's part, whose first row is `first`.
 #[inline]
-fn part_times(
-    vcpu: &[u32],
-    reload: u32,
-    part: Rows,
-    first: usize,
-    times: &mut [u32],
-    time: impl Fn(&[u32], u32, Rows, usize) -> Option<u32>,
-) -> Result<(), Refusal> {
-    for place in 0..part.count() {
-        match time(vcpu, reload, part, place) {
-            Some(time) => times[first + place] = time,
-            None => return demand(false, 22, first + place),
+fn vcpu_times(vcpus: Rows, found: &mut [u32]) -> Result<(), Refusal> {
+    for (row, found) in found.iter_mut().enumerate() {
+        match vcpu_time(vcpus, row) {
+            Some(time) => *found = time,
+            None => return demand(false, 21, row),
         }
     }
     Ok(())
 }
 
+/// The times of all tasks, each worked out over the part of its VCPU alone.
+#[inline(always)]
+fn task_times(
+    reload: u32,
+    vcpus: Rows,
+    tasks: Rows,
+    found: &mut [u32],
+    time: impl Fn(&[u32], u32, Rows, usize) -> Option<u32>,
+) -> Result<(), Refusal> {
+    let mut first = 0;
+    while first < tasks.count() {
+        let vcpu = tasks.row(first)[0];
+        let own = |row: &usize| tasks.row(*row)[0] == vcpu;
+        let end = first + (first..tasks.count()).take_while(own).count();
+        let part = rows(
+            &tasks.words[first * TASK_WORDS..end * TASK_WORDS],
+            TASK_WORDS,
+        );
+        for (place, found) in found[first..end].iter_mut().enumerate() {
+            match time(vcpus.row(vcpu as usize), reload, part, place) {
+                Some(time) => *found = time,
+                None => return demand(false, 22, first + place),
+            }
+        }
+        first = end;
+    }
+    Ok(())
+}
+
+/// Times are kept apart until no row is late, so that a refusal leaves the lent list alone.
 #[inline(always)]
 fn admit(
     board: &Board,
     reload: u32,
     [vcpus, tasks]: [&[u32]; 2],
     times: &mut [u32],
-    time: TaskTime,
+    time: impl Fn(&[u32], u32, Rows, usize) -> Option<u32>,
 ) -> Result<(), Refusal> {
     board.check(None)?;
-    let vcpus = Rows {
-        words: vcpus,
-        width: VCPU_WORDS,
-    };
-    let tasks = Rows {
-        words: tasks,
-        width: TASK_WORDS,
-    };
+    let vcpus = rows(vcpus, VCPU_WORDS);
+    let tasks = rows(tasks, TASK_WORDS);
     check(board, reload, vcpus, tasks, times.len())?;
     let count = vcpus.count();
+    let all = count + tasks.count();
     let mut found = [0; MOST];
-    for (row, found) in found[..count].iter_mut().enumerate() {
-        match vcpu_time(vcpus, row) {
-            Some(time) => *found = time,
-            None => return demand(false, 21, row),
-        }
-    }
-    let mut first = 0;
-    while first < tasks.count() {
-        let vcpu = tasks.row(first)[0];
-        let own = |row: &usize| tasks.row(*row)[0] == vcpu;
-        let end = first + (first..tasks.count()).take_while(own).count();
-        let part = Rows {
-            words: &tasks.words[first * TASK_WORDS..end * TASK_WORDS],
-            width: TASK_WORDS,
-        };
-        let row = vcpus.row(vcpu as usize);
-        part_times(row, reload, part, first, &mut found[count..], time)?;
-        first = end;
-    }
-    let rows = count + tasks.count();
-    times[..rows].copy_from_slice(&found[..rows]);
+    vcpu_times(vcpus, &mut found[..count])?;
+    task_times(reload, vcpus, tasks, &mut found[count..], time)?;
+    times[..all].copy_from_slice(&found[..all]);
     Ok(())
 }
 
 #[inline(never)]
+#[export_name = "baseline_admit_plan"]
 pub fn admit_plan(
     board: &Board,
     reload: u32,
@@ -264,6 +267,7 @@ pub fn admit_plan(
 
 /// Admission that keeps the charges of earlier tasks between the rounds of a search.
 #[inline(never)]
+#[export_name = "baseline_admit_plan_keeping"]
 pub fn admit_plan_keeping(
     board: &Board,
     reload: u32,
