@@ -49,13 +49,9 @@ const PAGES_SET: u32 = 0x5A3C;
 
 impl Pages {
     pub fn new(bleaching: bool) -> Self {
-        let numbers = std::array::from_fn(|i| {
-            let index = (i as u32 * 259_993) % (1 << 24);
-            match bleaching {
-                true => baseline::layout(16, PAGES_SET, index).expect("an index in its limit"),
-                false => index,
-            }
-        });
+        let inside = |page: &u32| !bleaching || PAGES_SET >> (page % 16) & 1 == 1;
+        let mut spread = (0..).map(|i| i * 259_993 % (1 << 24)).filter(inside);
+        let numbers = std::array::from_fn(|_| spread.next().expect("no end"));
         Pages {
             bleaching,
             numbers,

@@ -5,6 +5,10 @@ use juzvanec::*;
 
 const REFUSED: &str = "the call is refused";
 
+/// A number and row, and what makes a call be refused so.
+type SpoiltFrames = (u32, u32, fn(&mut Board, &mut Vec<u16>));
+type SpoiltPlan = (u32, u32, fn(&mut Plan));
+
 /// A board with frames of colour 0 to 3, two guests, and some frames held.
 fn state() -> (Board, Vec<u16>) {
     let board = Board::new(4, 8, &[0x3, 0xC]);
@@ -28,7 +32,7 @@ fn frames(
 /// 2 to 7, the same of all five calls.
 #[test]
 fn boards() {
-    let spoils: [(u32, u32, fn(&mut Board, &mut Vec<u16>)); 9] = [
+    let spoils: [SpoiltFrames; 9] = [
         (2, 0, |board, _| board.colours = 3),
         (3, 0, |board, _| board.frames = 4097),
         (3, 0, |_, table| table.push(0)),
@@ -153,7 +157,7 @@ fn refusal(spoil: impl Fn(&mut Plan)) -> Option<(u32, u32)> {
 
 #[test]
 fn plans() {
-    let spoils: [(u32, u32, fn(&mut Plan)); 16] = [
+    let spoils: [SpoiltPlan; 16] = [
         (2, 0, |plan| plan.board.colours = 5),
         (3, 0, |plan| plan.board.frames = 0),
         (4, 0, |plan| plan.board.domains = 9),
