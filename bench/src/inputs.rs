@@ -125,15 +125,17 @@ pub fn hard_rounds(tasks: u32) -> u32 {
     rounds
 }
 
-/// A case and its name.
+/// A case, what it is at any size, and its name at this size.
 pub struct Named {
+    pub kind: &'static str,
     pub name: String,
     pub case: Box<dyn Case>,
 }
 
-fn named(name: &str, case: impl Case + 'static) -> Named {
+fn named(kind: &'static str, size: &str, case: impl Case + 'static) -> Named {
     Named {
-        name: name.to_string(),
+        kind,
+        name: format!("{kind}{size}"),
         case: Box::new(case),
     }
 }
@@ -147,85 +149,102 @@ fn frames(table: Vec<u16>, page: u32) -> Frames {
 
 /// The frame calls on F frames.
 fn frame_cases(f: u32) -> Vec<Named> {
-    let last = f - 9;
-    let first = 4;
+    let (first, last) = (4, f - 9);
+    let (faults, moves) = (f * 125 / 512, f * 125 / 256);
     let boot = Boot {
         frames: frames(held(f, 0), 0),
-        faults: f * 125 / 512,
+        faults,
         table: vec![0; f as usize],
     };
-    let sized = |name: &str| format!("{name}, F = {f}");
+    let look = |page| Look(frames(held(f, f), page));
+    let fault = |table| Fault(frames(table, UNMAPPED));
+    let size = format!(", F = {f}");
     vec![
+        named("look, page in one of the first frames", &size, look(first)),
+        named("look, page in one of the last frames", &size, look(last)),
+        named("fault, empty table", &size, fault(held(f, 0))),
+        named("fault, half-full table", &size, fault(held(f, f / 2))),
+        named("fault, nearly full table", &size, fault(nearly_full(f))),
+        named("boot", &format!(" of {faults} faults{size}"), boot),
         named(
-            &sized("look, page in one of the first frames"),
-            Look(frames(held(f, f), first)),
-        ),
-        named(
-            &sized("look, page in one of the last frames"),
-            Look(frames(held(f, f), last)),
-        ),
-        named(
-            &sized("fault, empty table"),
-            Fault(frames(held(f, 0), UNMAPPED)),
-        ),
-        named(
-            &sized("fault, half-full table"),
-            Fault(frames(held(f, f / 2), UNMAPPED)),
-        ),
-        named(
-            &sized("fault, nearly full table"),
-            Fault(frames(nearly_full(f), UNMAPPED)),
-        ),
-        named(&sized(&format!("boot of {} faults", f * 125 / 512)), boot),
-        named(
-            &sized(&format!("recolour of {} frames", f * 125 / 256)),
+            "recolour",
+            &format!(" of {moves} frames{size}"),
             recolouring(f),
         ),
     ]
 }
 
 fn plan_cases(tasks: u32) -> Vec<Named> {
+    let size = format!(", {tasks} tasks");
+    let rounds = format!("{size}, {} rounds", hard_rounds(tasks));
     vec![
         named(
-            &format!("admission, typical plan, {tasks} tasks"),
+            "admission, typical plan",
+            &size,
             Admission::new(typical(tasks), ADMITTED, false),
         ),
         named(
-            &format!(
-                "admission, hard plan, {tasks} tasks ({} rounds)",
-                hard_rounds(tasks)
-            ),
+            "admission, hard plan",
+            &rounds,
             Admission::new(hard(tasks), LATE, false),
         ),
     ]
 }
 
-/// The cases of the main table, at full size.
-pub fn main_cases() -> Vec<Named> {
+/// Every call at full size.
+pub fn full_size() -> Vec<Named> {
     let mut cases = frame_cases(4096);
-    cases.push(named("layout", Pages::new(false)));
-    cases.push(named("bleaching", Pages::new(true)));
+    cases.push(named("layout", "", Pages::new(false)));
+    cases.push(named("bleaching", "", Pages::new(true)));
     cases.extend(plan_cases(32));
     cases
 }
 
 /// The plans against a baseline that keeps the charges of earlier tasks between the rounds.
-pub fn keeping_cases() -> Vec<Named> {
+pub fn keeping() -> Vec<Named> {
     vec![
         named(
-            "admission, typical plan, 32 tasks, charges kept",
+            "admission, typical plan",
+            ", 32 tasks, charges kept",
             Admission::new(typical(32), ADMITTED, true),
         ),
         named(
-            "admission, hard plan, 32 tasks, charges kept",
+            "admission, hard plan",
+            ", 32 tasks, charges kept",
             Admission::new(hard(32), LATE, true),
         ),
     ]
 }
 
-/// The smaller sizes.
-pub fn growth_cases() -> Vec<Named> {
-    let mut cases: Vec<Named> = [256, 1024].into_iter().flat_map(frame_cases).collect();
-    cases.extend([4, 8, 16].into_iter().flat_map(plan_cases));
-    cases
+/// The calls at several sizes, and what the sizes count.
+pub struct Growth {
+    pub unit: &'static str,
+    pub sizes: Vec<u32>,
+    /// For each size the cases, in one order.
+    pub cases: Vec<Vec<Named>>,
+}
+
+pub fn growth() -> [Growth; 2] {
+    let [f, tasks] = [vec![256, 1024, 4096], vec![4, 8, 16, 32]];
+    [
+        Growth {
+            unit: "F =",
+            cases: f.iter().map(|f| frame_cases(*f)).collect(),
+            sizes: f,
+        },
+        Growth {
+            unit: "tasks:",
+            cases: tasks.iter().map(|tasks| plan_cases(*tasks)).collect(),
+            sizes: tasks,
+        },
+    ]
+}
+
+/// All cases, some of them twice.
+pub fn all() -> impl Iterator<Item = Named> {
+    let grown = growth().into_iter().flat_map(|growth| growth.cases);
+    full_size()
+        .into_iter()
+        .chain(keeping())
+        .chain(grown.flatten())
 }
