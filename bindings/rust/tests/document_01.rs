@@ -36,6 +36,26 @@ fn layout_and_bleaching() {
     assert_eq!(bleach(16, 0x8000, 0x5F_FFFF), Ok(0x5_FFFF));
 }
 
+/// The last index of one colour of 16 is the last page that can be bleached.
+#[test]
+fn limits_of_layout_and_bleaching() {
+    assert_eq!(layout(16, 0x8000, LAST_INDEX), Ok(LAST_BLEACHED));
+    assert_eq!(bleach(16, 0x8000, LAST_BLEACHED), Ok(LAST_INDEX));
+    assert_eq!(layout(16, 0x8000, LAST_INDEX + 1), refused(10, 0));
+    assert_eq!(bleach(16, 0x8000, LAST_BLEACHED + 1), refused(10, 0));
+}
+
+/// Look and release take the lowest of two frames with the page's word.
+#[test]
+fn lowest_frame() {
+    let board = Board::new(4, 8, &[0x3, 0xC]);
+    let mut table = [0, 0, 4097, 10, 0, 10, 0, 0];
+    assert_eq!(look(&board, &table, 0, 9), Ok(Looked::Mapped(3)));
+    assert_eq!(fault(&board, &mut table, 0, 9), Ok(Faulted::Old(3)));
+    assert_eq!(release(&board, &mut table, 0, 9), Ok(3));
+    assert_eq!(table, [0, 0, 4097, 0, 0, 10, 0, 0]);
+}
+
 #[test]
 fn two_guests() {
     let mut board = Board::new(4, 8, &[0x3, 0xC]);

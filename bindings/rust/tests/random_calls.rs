@@ -69,9 +69,9 @@ impl Machine {
             Ok(Faulted::New(frame)) => {
                 assert_eq!(seen, Ok(Looked::Unmapped));
                 assert_eq!(before[frame], FREE);
-                self.table[frame] = FREE;
-                assert_eq!(self.table, before);
-                self.table[frame] = page_word(domain, page).unwrap();
+                let mut expected = before;
+                expected[frame] = page_word(domain, page).unwrap();
+                assert_eq!(self.table, expected);
                 let now = look(&self.board, &self.table, domain, page);
                 assert_eq!(now, Ok(Looked::Mapped(frame)));
             }
