@@ -1,4 +1,4 @@
-//! Document 01's functions in plain Rust, by the same methods as the proved library and with all its
+//! Document 01's functions in plain Rust, by the methods of the proved library and with all its
 //! refusals, to measure that library against. Each function offered is kept apart from its caller, as a
 //! function of a linked library is.
 
