@@ -89,8 +89,8 @@ impl What {
         let Some(pair) = pair else {
             return [(); 3].map(|()| "–".to_string());
         };
-        let ratio = format!("{:.2}", pair.ratio());
-        let ratio = match pair.ratio() > GOAL {
+        let ratio = format!("{:.2}", pair.ratio);
+        let ratio = match pair.ratio > GOAL {
             true => format!("{ratio} (above)"),
             false => ratio,
         };
@@ -131,7 +131,7 @@ fn growth_table(growth: Growth, what: What) {
         let mut row = format!("| {} |", first.kind);
         for mut named in cases {
             let [ours, base, ratio] = what.cells(what.measure(&mut named));
-            row += &format!(" {ours} / {base} = {ratio} |");
+            row += &format!(" {ours} / {base}, {ratio} |");
         }
         println!("{row}");
     }
@@ -152,9 +152,9 @@ fn report(whats: &[What]) -> bool {
     );
     for what in whats {
         match what {
-            What::Times => println!("\n## How the time grows\n\nNanoseconds, ours / Rust = ratio."),
+            What::Times => println!("\n## How the time grows\n\nNanoseconds, ours / Rust, ratio."),
             What::Instructions => {
-                println!("\n## How the instructions grow\n\nOurs / Rust = ratio.")
+                println!("\n## How the instructions grow\n\nOurs / Rust, ratio.")
             }
         }
         for growth in growth() {

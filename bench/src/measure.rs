@@ -1,5 +1,6 @@
 //! Times and instruction counts of one case. Times are medians over many short batches, in which the two
-//! sides take turns; instructions are those that callgrind collects inside the function itself.
+//! sides take turns, and the ratio is the median over the turns of their ratio, so that a slow spell counts
+//! on both sides; instructions are those that callgrind collects inside the function itself.
 
 use std::env;
 use std::process::Command;
@@ -8,22 +9,17 @@ use std::time::{Duration, Instant};
 use crate::cases::Case;
 
 const BATCH: Duration = Duration::from_micros(100);
-const TURNS: usize = 401;
+const TURNS: usize = 2001;
 /// No case goes on for longer, but for a few turns.
-const MOST: Duration = Duration::from_secs(3);
+const MOST: Duration = Duration::from_secs(2);
 const FEWEST: usize = 21;
 
-/// Nanoseconds, or instructions, for one call of either side.
+/// Nanoseconds, or instructions, for one call of either side, and ours by the baseline's.
 #[derive(Clone, Copy)]
 pub struct Pair {
     pub ours: f64,
     pub base: f64,
-}
-
-impl Pair {
-    pub fn ratio(&self) -> f64 {
-        self.ours / self.base
-    }
+    pub ratio: f64,
 }
 
 fn timed(run: impl FnOnce()) -> Duration {
@@ -48,30 +44,26 @@ fn median(mut list: Vec<f64>) -> f64 {
 
 pub fn times(case: &mut dyn Case) -> Pair {
     let calls = batch(case);
-    let mut ours = Vec::new();
-    let mut base = Vec::new();
+    let mut turns = Vec::new();
     let start = Instant::now();
-    for turn in 0..TURNS {
-        if turn >= FEWEST && start.elapsed() > MOST {
-            break;
-        }
+    while turns.len() < FEWEST || turns.len() < TURNS && start.elapsed() < MOST {
         // each side goes first in every other turn
-        for side in [turn % 2, 1 - turn % 2] {
-            match side {
-                0 => ours.push(timed(|| case.run_ours(calls))),
-                _ => base.push(timed(|| case.run_base(calls))),
+        let turn = match turns.len() % 2 {
+            0 => {
+                let ours = timed(|| case.run_ours(calls));
+                [ours, timed(|| case.run_base(calls))]
             }
-        }
+            _ => {
+                let base = timed(|| case.run_base(calls));
+                [timed(|| case.run_ours(calls)), base]
+            }
+        };
+        turns.push(turn.map(|time| time.as_nanos() as f64 / f64::from(calls)));
     }
-    let each = |list: Vec<Duration>| {
-        let each = list
-            .iter()
-            .map(|time| time.as_nanos() as f64 / f64::from(calls));
-        median(each.collect())
-    };
     Pair {
-        ours: each(ours),
-        base: each(base),
+        ours: median(turns.iter().map(|turn| turn[0]).collect()),
+        base: median(turns.iter().map(|turn| turn[1]).collect()),
+        ratio: median(turns.iter().map(|turn| turn[0] / turn[1]).collect()),
     }
 }
 
@@ -99,8 +91,11 @@ pub fn instructions(name: &str, case: &dyn Case) -> Option<Pair> {
         _ => 1,
     };
     let [ours, base] = case.symbols();
+    let ours = collected(name, "ours", ours, calls)?;
+    let base = collected(name, "base", base, calls)?;
     Some(Pair {
-        ours: collected(name, "ours", ours, calls)?,
-        base: collected(name, "base", base, calls)?,
+        ours,
+        base,
+        ratio: ours / base,
     })
 }
