@@ -1,27 +1,13 @@
-//! The separate tool: the recorder's rules written anew from the papers, without a look at the proved
-//! code. It writes the vectors that the programs `vectors_*` answer, or checks those in the tree; it runs
-//! random histories of the five calls against the domain rule; and it answers as the program `admit` does,
-//! and compares that program with itself.
-
-mod admit;
-mod boards;
-mod cache;
-mod compare;
-mod frames;
-mod history;
-mod inputs;
-mod pipe;
-mod plans;
-mod random;
-mod random_inputs;
-mod random_plans;
-mod reply;
-mod vectors;
+//! The separate tool's command. It writes the vectors that the programs `vectors_*` answer, or checks
+//! those in the tree; it runs random histories of the five calls against the domain rule; and it answers
+//! as the program `admit` does, and compares that program with itself.
 
 use std::io::{self, Read, Write};
 use std::path::Path;
 use std::process::ExitCode;
 use std::time::Duration;
+
+use reference::{admit, compare::compare as compare_program, history, vectors, SEED};
 
 const USAGE: &str =
     "usage: reference write DIR [SEED] | reference check DIR | reference histories [SEED]
@@ -31,9 +17,6 @@ const USAGE: &str =
   histories  runs random histories of the frame calls and says whether the domain rule holds of them
   admit      reads a plan from standard input and prints what the program `admit` prints
   compare    runs a compiled `admit` (target/bin/admit) on random inputs (4000) and says where it differs";
-
-/// The seed of the vectors in the tree.
-const SEED: u64 = 2003;
 
 /// Pairs of histories that `histories` compares.
 const PAIRS: u32 = 10_000;
@@ -52,7 +35,7 @@ fn main() -> ExitCode {
         ["check", dir] => Some(check(dir)),
         ["histories"] => Some(histories(SEED)),
         ["histories", seed] => seed.parse().ok().map(histories),
-        ["admit"] => Some(admit()),
+        ["admit"] => Some(answer()),
         ["compare", rest @ ..] => compare(rest),
         _ => None,
     };
@@ -90,7 +73,7 @@ fn histories(seed: u64) -> bool {
     tally.good()
 }
 
-fn admit() -> bool {
+fn answer() -> bool {
     let mut input = Vec::new();
     let read = io::stdin().lock().read_to_end(&mut input);
     let verdict = admit::judge(&input).to_string();
@@ -109,7 +92,7 @@ fn compare(words: &[&str]) -> Option<bool> {
     if cases == 0 {
         return None;
     }
-    match compare::compare(&[program], cases, seed, LIMIT) {
+    match compare_program(&[program], cases, seed, LIMIT) {
         Ok(tally) => {
             tally.report();
             Some(tally.differences == 0)

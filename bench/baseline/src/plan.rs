@@ -1,0 +1,279 @@
+//! Admission of a plan. A time is found by rounds: from t to the first microsecond whose supply covers the
+//! need in t, until that is t itself or lies beyond the bound.
+
+use crate::{demand, demand_rows, Board, Refusal};
+
+const LONGEST: u32 = 1_000_000;
+const VCPU_WORDS: usize = 4;
+const TASK_WORDS: usize = 20;
+/// All rows of a plan.
+const MOST: usize = 48;
+
+#[derive(Clone, Copy)]
+struct Vcpu<'a>(&'a [u32]);
+
+impl Vcpu<'_> {
+    #[inline]
+    fn fits(self, board: &Board) -> bool {
+        let row = self.0;
+        row[0] < 4
+            && row[1] < board.domains
+            && (1..=LONGEST).contains(&row[2])
+            && (1..=row[2]).contains(&row[3])
+    }
+}
+
+#[derive(Clone, Copy)]
+struct Task<'a>(&'a [u32]);
+
+impl Task<'_> {
+    #[inline]
+    fn set(self) -> u32 {
+        self.0[3]
+    }
+
+    /// The cost with as many colours as the set has.
+    #[inline]
+    fn cost(self) -> u32 {
+        self.0[3 + self.set().count_ones() as usize]
+    }
+
+    #[inline]
+    fn fits(self, board: &Board, vcpus: Rows) -> bool {
+        let row = self.0;
+        if row[0] as usize >= vcpus.count() {
+            return false;
+        }
+        let grant = board.grants[vcpus.row(row[0] as usize)[1] as usize];
+        let costs = &row[4..];
+        (1..=LONGEST).contains(&row[1])
+            && (1..=row[1]).contains(&row[2])
+            && row[3] != 0
+            && row[3] & !grant == 0
+            && costs.iter().all(|cost| (1..=LONGEST).contains(cost))
+            && costs.windows(2).all(|pair| pair[1] <= pair[0])
+    }
+}
+
+/// A list of words as rows.
+#[derive(Clone, Copy)]
+struct Rows<'a> {
+    words: &'a [u32],
+    width: usize,
+}
+
+impl<'a> Rows<'a> {
+    #[inline]
+    fn count(self) -> usize {
+        self.words.len() / self.width
+    }
+
+    #[inline]
+    fn row(self, row: usize) -> &'a [u32] {
+        &self.words[row * self.width..][..self.width]
+    }
+
+    #[inline]
+    fn fit(self, most: usize) -> bool {
+        let length = self.words.len();
+        length > 0 && length <= most * self.width && length.is_multiple_of(self.width)
+    }
+}
+
+/// Refusals 15 to 20.
+#[inline]
+fn check(board: &Board, reload: u32, vcpus: Rows, tasks: Rows, room: usize) -> Result<(), Refusal> {
+    demand(reload <= 10_000 && vcpus.fit(16), 15, 0)?;
+    let rows = vcpus.count() + tasks.count();
+    demand(tasks.fit(32) && room >= rows, 16, 0)?;
+    demand_rows(vcpus.count(), 17, |row| !Vcpu(vcpus.row(row)).fits(board))?;
+    let count = tasks.count();
+    demand_rows(count, 18, |row| !Task(tasks.row(row)).fits(board, vcpus))?;
+    demand_rows(count, 19, |row| {
+        row > 0 && tasks.row(row)[0] < tasks.row(row - 1)[0]
+    })?;
+    // of two that share, the lower is at fault first
+    demand_rows(count, 20, |row| {
+        let own = tasks.row(row);
+        (row + 1..count).any(|other| {
+            let other = tasks.row(other);
+            other[0] != own[0] && other[3] & own[3] != 0
+        })
+    })
+}
+
+/// The first microsecond by which so much has been supplied.
+#[inline]
+fn first_supply(period: u64, budget: u64, amount: u64) -> u64 {
+    let before = amount - 1;
+    2 * (period - budget) + before / budget * period + before % budget + 1
+}
+
+/// A time by rounds, for any need and supply; no supply exceeds its time.
+#[inline]
+fn first_time(due: u32, need: impl Fn(u64) -> u64, supplied: impl Fn(u64) -> u64) -> Option<u32> {
+    let due = u64::from(due);
+    let mut t = 1;
+    while t <= due {
+        let need = need(t);
+        if need > due {
+            return None;
+        }
+        let next = supplied(need);
+        if next <= t {
+            return Some(t as u32);
+        }
+        t = next;
+    }
+    None
+}
+
+#[inline]
+fn vcpu_time(vcpus: Rows, row: usize) -> Option<u32> {
+    let own = vcpus.row(row);
+    let need = |t: u64| {
+        let earlier = vcpus.words.chunks_exact(VCPU_WORDS).take(row);
+        let asked = earlier
+            .filter(|other| other[0] == own[0])
+            .map(|other| t.div_ceil(other[2].into()) * u64::from(other[3]));
+        u64::from(own[3]) + asked.sum::<u64>()
+    };
+    first_time(own[2], need, |amount| amount)
+}
+
+/// What an arrival of the earlier task costs the later one.
+#[inline]
+fn charge(reload: u32, earlier: Task, later: Task) -> u64 {
+    let shared = (earlier.set() & later.set()).count_ones();
+    u64::from(earlier.cost()) + u64::from(reload) * u64::from(shared)
+}
+
+/// The time of the row at that place of its VCPU's part; the need is worked out anew in each round.
+#[inline]
+fn task_time(vcpu: &[u32], reload: u32, part: Rows, place: usize) -> Option<u32> {
+    let own = Task(part.row(place));
+    let need = |t: u64| {
+        let earlier = part.words.chunks_exact(TASK_WORDS).take(place);
+        let asked = earlier.map(|row| t.div_ceil(row[1].into()) * charge(reload, Task(row), own));
+        u64::from(own.cost()) + asked.sum::<u64>()
+    };
+    let [period, budget] = [vcpu[2], vcpu[3]].map(u64::from);
+    first_time(own.0[2], need, |amount| {
+        first_supply(period, budget, amount)
+    })
+}
+
+/// The same, with periods and charges of the earlier rows kept between rounds.
+#[inline]
+fn task_time_keeping(vcpu: &[u32], reload: u32, part: Rows, place: usize) -> Option<u32> {
+    let own = Task(part.row(place));
+    let mut kept = [(0, 0); 32];
+    let earlier = part.words.chunks_exact(TASK_WORDS).take(place);
+    for (keep, row) in kept.iter_mut().zip(earlier) {
+        *keep = (u64::from(row[1]), charge(reload, Task(row), own));
+    }
+    let kept = &kept[..place];
+    let cost = u64::from(own.cost());
+    let need = |t: u64| {
+        let asked = kept
+            .iter()
+            .map(|(period, charge)| t.div_ceil(*period) * charge);
+        cost + asked.sum::<u64>()
+    };
+    let [period, budget] = [vcpu[2], vcpu[3]].map(u64::from);
+    first_time(own.0[2], need, |amount| {
+        first_supply(period, budget, amount)
+    })
+}
+
+/// A list of words, and how many make a row.
+fn rows(words: &[u32], width: usize) -> Rows<'_> {
+    Rows { words, width }
+}
+
+#[inline]
+fn vcpu_times(vcpus: Rows, found: &mut [u32]) -> Result<(), Refusal> {
+    for (row, found) in found.iter_mut().enumerate() {
+        match vcpu_time(vcpus, row) {
+            Some(time) => *found = time,
+            None => return demand(false, 21, row),
+        }
+    }
+    Ok(())
+}
+
+/// The times of all tasks, each worked out over the part of its VCPU alone.
+#[inline(always)]
+fn task_times(
+    reload: u32,
+    vcpus: Rows,
+    tasks: Rows,
+    found: &mut [u32],
+    time: impl Fn(&[u32], u32, Rows, usize) -> Option<u32>,
+) -> Result<(), Refusal> {
+    let mut first = 0;
+    while first < tasks.count() {
+        let vcpu = tasks.row(first)[0];
+        let own = |row: &usize| tasks.row(*row)[0] == vcpu;
+        let end = first + (first..tasks.count()).take_while(own).count();
+        let part = rows(
+            &tasks.words[first * TASK_WORDS..end * TASK_WORDS],
+            TASK_WORDS,
+        );
+        for (place, found) in found[first..end].iter_mut().enumerate() {
+            match time(vcpus.row(vcpu as usize), reload, part, place) {
+                Some(time) => *found = time,
+                None => return demand(false, 22, first + place),
+            }
+        }
+        first = end;
+    }
+    Ok(())
+}
+
+/// Times are kept apart until no row is late, so that a refusal leaves the lent list alone.
+#[inline(always)]
+fn admit(
+    board: &Board,
+    reload: u32,
+    [vcpus, tasks]: [&[u32]; 2],
+    times: &mut [u32],
+    time: impl Fn(&[u32], u32, Rows, usize) -> Option<u32>,
+) -> Result<(), Refusal> {
+    board.check(None)?;
+    let vcpus = rows(vcpus, VCPU_WORDS);
+    let tasks = rows(tasks, TASK_WORDS);
+    check(board, reload, vcpus, tasks, times.len())?;
+    let count = vcpus.count();
+    let all = count + tasks.count();
+    let mut found = [0; MOST];
+    vcpu_times(vcpus, &mut found[..count])?;
+    task_times(reload, vcpus, tasks, &mut found[count..], time)?;
+    times[..all].copy_from_slice(&found[..all]);
+    Ok(())
+}
+
+#[inline(never)]
+#[export_name = "baseline_admit_plan"]
+pub fn admit_plan(
+    board: &Board,
+    reload: u32,
+    vcpus: &[u32],
+    tasks: &[u32],
+    times: &mut [u32],
+) -> Result<(), Refusal> {
+    admit(board, reload, [vcpus, tasks], times, task_time)
+}
+
+/// Admission that keeps the charges of earlier tasks between the rounds of a search.
+#[inline(never)]
+#[export_name = "baseline_admit_plan_keeping"]
+pub fn admit_plan_keeping(
+    board: &Board,
+    reload: u32,
+    vcpus: &[u32],
+    tasks: &[u32],
+    times: &mut [u32],
+) -> Result<(), Refusal> {
+    admit(board, reload, [vcpus, tasks], times, task_time_keeping)
+}

@@ -1,0 +1,373 @@
+//! The cases that are measured. Each makes one call on either side, with the same arguments and the same
+//! work around it, and can say whether the two sides answer alike.
+
+use std::hint::black_box;
+
+use baseline::{Board, Faulted, Looked, Refusal};
+
+use crate::inputs::{self, Plan};
+use crate::ours::{self, Reply};
+
+/// A call on either side.
+pub trait Case {
+    fn ours(&mut self);
+    fn base(&mut self);
+    /// Runs both sides once and compares replies and lists.
+    fn agree(&mut self) -> bool;
+    /// What the two functions are called in the program, ours first.
+    fn symbols(&self) -> [&'static str; 2];
+
+    fn run_ours(&mut self, calls: u32) {
+        for _ in 0..calls {
+            self.ours();
+        }
+    }
+
+    fn run_base(&mut self, calls: u32) {
+        for _ in 0..calls {
+            self.base();
+        }
+    }
+}
+
+/// The baseline's reply as the interface would give it.
+fn reply<A>(reply: Result<A, Refusal>, values: impl Fn(A) -> [u32; 2]) -> Reply {
+    match reply {
+        Ok(answer) => (0, 0, values(answer)),
+        Err(refusal) => (refusal.number, refusal.row, [0; 2]),
+    }
+}
+
+/// Layout or bleaching over a ring of numbers.
+pub struct Pages {
+    pub bleaching: bool,
+    pub numbers: [u32; 64],
+    at: usize,
+}
+
+const PAGES_SET: u32 = 0x5A3C;
+
+impl Pages {
+    pub fn new(bleaching: bool) -> Self {
+        let inside = |page: &u32| !bleaching || PAGES_SET >> (page % 16) & 1 == 1;
+        let mut spread = (0..).map(|i| i * 259_993 % (1 << 24)).filter(inside);
+        let numbers = std::array::from_fn(|_| spread.next().expect("no end"));
+        Pages {
+            bleaching,
+            numbers,
+            at: 0,
+        }
+    }
+
+    #[inline(always)]
+    fn next(&mut self) -> u32 {
+        self.at = (self.at + 1) % 64;
+        self.numbers[self.at]
+    }
+}
+
+impl Case for Pages {
+    fn ours(&mut self) {
+        let number = black_box(self.next());
+        let (n, set) = black_box((16, PAGES_SET));
+        black_box(match self.bleaching {
+            true => ours::bleach(n, set, number),
+            false => ours::layout(n, set, number),
+        });
+    }
+
+    fn base(&mut self) {
+        let number = black_box(self.next());
+        let (n, set) = black_box((16, PAGES_SET));
+        let _ = black_box(match self.bleaching {
+            true => baseline::bleach(n, set, number),
+            false => baseline::layout(n, set, number),
+        });
+    }
+
+    fn agree(&mut self) -> bool {
+        self.numbers.into_iter().all(|number| match self.bleaching {
+            true => {
+                let base = reply(baseline::bleach(16, PAGES_SET, number), |index| [index, 0]);
+                ours::bleach(16, PAGES_SET, number) == base
+            }
+            false => {
+                let base = reply(baseline::layout(16, PAGES_SET, number), |page| [page, 0]);
+                ours::layout(16, PAGES_SET, number) == base
+            }
+        })
+    }
+
+    fn symbols(&self) -> [&'static str; 2] {
+        match self.bleaching {
+            true => ["juzvanec_bleach", "baseline_bleach"],
+            false => ["juzvanec_layout", "baseline_layout"],
+        }
+    }
+}
+
+/// A board and table on which domain 1 looks or faults pages, and the table is restored.
+pub struct Frames {
+    board: Board,
+    words: [u32; 19],
+    table: Vec<u16>,
+    page: u32,
+}
+
+impl Frames {
+    pub fn new(board: Board, table: Vec<u16>, page: u32) -> Self {
+        Frames {
+            board,
+            words: ours::words(&board),
+            table,
+            page,
+        }
+    }
+}
+
+/// A look of a page.
+pub struct Look(pub Frames);
+
+impl Case for Look {
+    fn ours(&mut self) {
+        let Frames { words, table, .. } = &self.0;
+        let page = black_box(self.0.page);
+        black_box(ours::look(black_box(words), black_box(table), 1, page));
+    }
+
+    fn base(&mut self) {
+        let Frames { board, table, .. } = &self.0;
+        let page = black_box(self.0.page);
+        let _ = black_box(baseline::look(black_box(board), black_box(table), 1, page));
+    }
+
+    fn agree(&mut self) -> bool {
+        let Frames {
+            words,
+            board,
+            table,
+            page,
+        } = &self.0;
+        let base = baseline::look(board, table, 1, *page);
+        let base = reply(base, |looked| match looked {
+            Looked::Mapped(frame) => [1, frame as u32],
+            Looked::Unmapped => [0, 0],
+        });
+        ours::look(words, table, 1, *page) == base
+    }
+
+    fn symbols(&self) -> [&'static str; 2] {
+        ["juzvanec_look", "baseline_look"]
+    }
+}
+
+/// A fault of an unmapped page; the frame it gets is made free again.
+pub struct Fault(pub Frames);
+
+fn faulted(faulted: Faulted) -> [u32; 2] {
+    match faulted {
+        Faulted::Old(frame) => [0, frame as u32],
+        Faulted::New(frame) => [1, frame as u32],
+    }
+}
+
+impl Case for Fault {
+    fn ours(&mut self) {
+        let page = black_box(self.0.page);
+        let Frames { words, table, .. } = &mut self.0;
+        let (_, _, [_, frame]) =
+            black_box(ours::fault(black_box(words), black_box(table), 1, page));
+        self.0.table[frame as usize] = 0;
+    }
+
+    fn base(&mut self) {
+        let page = black_box(self.0.page);
+        let Frames { board, table, .. } = &mut self.0;
+        let reply = black_box(baseline::fault(black_box(board), black_box(table), 1, page));
+        if let Ok(Faulted::New(frame)) = reply {
+            self.0.table[frame] = 0;
+        }
+    }
+
+    fn agree(&mut self) -> bool {
+        let page = self.0.page;
+        let [mut one, mut two] = [self.0.table.clone(), self.0.table.clone()];
+        let base = reply(baseline::fault(&self.0.board, &mut one, 1, page), faulted);
+        let ours = ours::fault(&self.0.words, &mut two, 1, page);
+        // the cases are all of new frames, which `ours` and `base` rely on
+        ours == base && one == two && ours.2[0] == 1
+    }
+
+    fn symbols(&self) -> [&'static str; 2] {
+        ["juzvanec_fault", "baseline_fault"]
+    }
+}
+
+/// Faults of that many pages in turn, from a table that is copied first.
+pub struct Boot {
+    pub frames: Frames,
+    pub faults: u32,
+    pub table: Vec<u16>,
+}
+
+impl Case for Boot {
+    fn ours(&mut self) {
+        self.table.copy_from_slice(&self.frames.table);
+        for page in 0..self.faults {
+            let words = black_box(&self.frames.words);
+            black_box(ours::fault(words, &mut self.table, 1, black_box(page)));
+        }
+    }
+
+    fn base(&mut self) {
+        self.table.copy_from_slice(&self.frames.table);
+        for page in 0..self.faults {
+            let board = black_box(&self.frames.board);
+            let _ = black_box(baseline::fault(board, &mut self.table, 1, black_box(page)));
+        }
+    }
+
+    fn agree(&mut self) -> bool {
+        self.ours();
+        let ours = self.table.clone();
+        self.base();
+        let held = ours.iter().filter(|word| **word != 0).count();
+        ours == self.table && held == self.faults as usize
+    }
+
+    fn symbols(&self) -> [&'static str; 2] {
+        ["juzvanec_fault", "baseline_fault"]
+    }
+}
+
+/// Domain 0 recolours from the lower half of the colours to the upper one; board and table are copied
+/// first.
+pub struct Recolour {
+    start: Frames,
+    set: u32,
+    now: Frames,
+    moves: Vec<u16>,
+}
+
+impl Recolour {
+    pub fn new(board: Board, table: Vec<u16>, set: u32) -> Self {
+        Recolour {
+            start: Frames::new(board, table.clone(), 0),
+            set,
+            moves: vec![0; 3 * table.len()],
+            now: Frames::new(board, table, 0),
+        }
+    }
+
+    #[inline(always)]
+    fn restore(&mut self) {
+        self.now.board = self.start.board;
+        self.now.words = self.start.words;
+        self.now.table.copy_from_slice(&self.start.table);
+    }
+
+    fn reply_ours(&mut self) -> Reply {
+        self.restore();
+        let Frames { words, table, .. } = &mut self.now;
+        let set = black_box(self.set);
+        ours::recolour(words, table, 0, set, &mut self.moves)
+    }
+
+    fn reply_base(&mut self) -> Result<usize, Refusal> {
+        self.restore();
+        let Frames { board, table, .. } = &mut self.now;
+        let set = black_box(self.set);
+        baseline::recolour(board, table, 0, set, &mut self.moves)
+    }
+}
+
+impl Case for Recolour {
+    fn ours(&mut self) {
+        black_box(self.reply_ours());
+    }
+
+    fn base(&mut self) {
+        let _ = black_box(self.reply_base());
+    }
+
+    fn agree(&mut self) -> bool {
+        self.moves.fill(7);
+        let one = self.reply_ours();
+        let (table, words, moves) = (self.now.table.clone(), self.now.words, self.moves.clone());
+        self.moves.fill(7);
+        let two = reply(self.reply_base(), |count| [count as u32, 0]);
+        let Frames { board, .. } = &self.now;
+        let lists = table == self.now.table && moves == self.moves;
+        one == two && lists && words == ours::words(board) && one.2[0] > 0
+    }
+
+    fn symbols(&self) -> [&'static str; 2] {
+        ["juzvanec_recolour", "baseline_recolour"]
+    }
+}
+
+/// The admission of a plan, against a baseline that may keep charges between rounds.
+pub struct Admission {
+    plan: Plan,
+    words: [u32; 19],
+    times: Vec<u32>,
+    expected: u32,
+    keeping: bool,
+}
+
+impl Admission {
+    pub fn new(plan: Plan, expected: u32, keeping: bool) -> Self {
+        Admission {
+            words: ours::words(&plan.board),
+            times: vec![7; inputs::ROWS],
+            plan,
+            expected,
+            keeping,
+        }
+    }
+
+    fn reply_ours(&mut self) -> Reply {
+        let Plan { vcpus, tasks, .. } = black_box(&self.plan);
+        let reload = black_box(self.plan.reload);
+        ours::admit_plan(&self.words, reload, vcpus, tasks, &mut self.times)
+    }
+
+    fn reply_base(&mut self) -> Result<(), Refusal> {
+        let Plan {
+            board,
+            vcpus,
+            tasks,
+            reload,
+        } = black_box(&self.plan);
+        match self.keeping {
+            true => baseline::admit_plan_keeping(board, *reload, vcpus, tasks, &mut self.times),
+            false => baseline::admit_plan(board, *reload, vcpus, tasks, &mut self.times),
+        }
+    }
+}
+
+impl Case for Admission {
+    fn ours(&mut self) {
+        black_box(self.reply_ours());
+    }
+
+    fn base(&mut self) {
+        let _ = black_box(self.reply_base());
+    }
+
+    fn agree(&mut self) -> bool {
+        self.times.fill(7);
+        let one = self.reply_ours();
+        let times = self.times.clone();
+        self.times.fill(7);
+        let two = reply(self.reply_base(), |()| [0; 2]);
+        one == two && times == self.times && one.0 == self.expected
+    }
+
+    fn symbols(&self) -> [&'static str; 2] {
+        match self.keeping {
+            true => ["juzvanec_admit_plan", "baseline_admit_plan_keeping"],
+            false => ["juzvanec_admit_plan", "baseline_admit_plan"],
+        }
+    }
+}

@@ -1,0 +1,250 @@
+//! The boards, tables and plans that are measured, and the list of cases.
+
+use baseline::Board;
+
+use crate::cases::{Admission, Boot, Case, Fault, Frames, Look, Pages, Recolour};
+
+/// All rows of the largest plan.
+pub const ROWS: usize = 48;
+
+/// The numbers that the plans here are answered with.
+const ADMITTED: u32 = 0;
+const LATE: u32 = 22;
+
+pub struct Plan {
+    pub board: Board,
+    pub reload: u32,
+    pub vcpus: Vec<u32>,
+    pub tasks: Vec<u32>,
+}
+
+fn board(frames: u32, sets: &[u32]) -> Board {
+    let mut grants = [0; 8];
+    grants[..sets.len()].copy_from_slice(sets);
+    Board {
+        colours: 16,
+        frames,
+        domains: sets.len() as u32,
+        grants,
+        active: grants,
+    }
+}
+
+/// Four domains with four colours each.
+fn guests(frames: u32) -> Board {
+    board(frames, &[0x000F, 0x00F0, 0x0F00, 0xF000])
+}
+
+fn word(domain: u32, page: u32) -> u16 {
+    (1 + 4096 * domain + page) as u16
+}
+
+/// A table whose first frames are held, each by the domain that its colour belongs to.
+fn held(frames: u32, used: u32) -> Vec<u16> {
+    let hold = |frame: u32| match frame < used {
+        true => word(frame % 16 / 4, frame),
+        false => 0,
+    };
+    (0..frames).map(hold).collect()
+}
+
+/// Every frame is held but the last of domain 1's colours.
+fn nearly_full(frames: u32) -> Vec<u16> {
+    let mut table = held(frames, frames);
+    table[frames as usize - 9] = 0;
+    table
+}
+
+/// One domain with all colours holds most frames of the lower half.
+fn recolouring(frames: u32) -> Recolour {
+    let mut board = board(frames, &[0xFFFF]);
+    board.active[0] = 0x00FF;
+    let moving = frames * 125 / 256;
+    let mut table = vec![0; frames as usize];
+    let lower = (0..frames).filter(|frame| frame % 16 < 8);
+    for frame in lower.take(moving as usize) {
+        table[frame as usize] = word(0, frame);
+    }
+    Recolour::new(board, table, 0xFF00)
+}
+
+fn task(vcpu: u32, period: u32, deadline: u32, set: u32, cost: u32) -> Vec<u32> {
+    let mut row = vec![vcpu, period, deadline, set];
+    row.extend((0..16).map(|place| cost + 15 - place));
+    row
+}
+
+/// Sixteen VCPUs, four on each core, with a colour each, and the tasks spread over them.
+pub fn typical(tasks: u32) -> Plan {
+    let vcpu = |row: u32| [row % 4, 0, 10_000 + 1000 * (row / 4), 2000];
+    let mut rows: Vec<u32> = (0..tasks).map(|row| row % 16).collect();
+    rows.sort();
+    let row = |(place, vcpu): (usize, &u32)| {
+        let period = 50_000 + 7000 * (place as u32 % 5);
+        task(*vcpu, period, period, 1 << vcpu, 900 + 30 * place as u32)
+    };
+    Plan {
+        board: board(64, &[0xFFFF]),
+        reload: 100,
+        vcpus: (0..16).flat_map(vcpu).collect(),
+        tasks: rows.iter().enumerate().flat_map(row).collect(),
+    }
+}
+
+/// One VCPU that has its core alone, and tasks that take all of it: two of short periods, and the others
+/// a sixth together. The last task has no time, and its search climbs in short steps to a deadline of
+/// 1,000,000.
+pub fn hard(tasks: u32) -> Plan {
+    let others = tasks - 3;
+    let row = |period, set| {
+        let mut row = task(0, period, period, set, 1);
+        row[4..].fill(1);
+        row
+    };
+    let mut rows = [row(2, 1), row(3, 2)].concat();
+    for place in 0..others {
+        rows.extend(row(6 * others, 1 << (place % 16)));
+    }
+    rows.extend(row(1_000_000, 0x8000));
+    Plan {
+        board: board(64, &[0xFFFF]),
+        reload: 0,
+        vcpus: vec![0, 0, 1_000_000, 1_000_000],
+        tasks: rows,
+    }
+}
+
+/// The rounds that the last search of the hard plan takes.
+pub fn hard_rounds(tasks: u32) -> u32 {
+    let others = u64::from(tasks) - 3;
+    let (mut t, mut rounds) = (1u64, 0);
+    while t <= 1_000_000 {
+        t = 1 + t.div_ceil(2) + t.div_ceil(3) + others * t.div_ceil(6 * others);
+        rounds += 1;
+    }
+    rounds
+}
+
+/// A case, what it is at any size, and its name at this size.
+pub struct Named {
+    pub kind: &'static str,
+    pub name: String,
+    pub case: Box<dyn Case>,
+}
+
+fn named(kind: &'static str, size: &str, case: impl Case + 'static) -> Named {
+    Named {
+        kind,
+        name: format!("{kind}{size}"),
+        case: Box::new(case),
+    }
+}
+
+/// A page that domain 1 has no frame for: frame 0 has a colour of domain 0.
+const UNMAPPED: u32 = 0;
+
+fn frames(table: Vec<u16>, page: u32) -> Frames {
+    Frames::new(guests(table.len() as u32), table, page)
+}
+
+/// The frame calls on F frames.
+fn frame_cases(f: u32) -> Vec<Named> {
+    let (first, last) = (4, f - 9);
+    let (faults, moves) = (f * 125 / 512, f * 125 / 256);
+    let boot = Boot {
+        frames: frames(held(f, 0), 0),
+        faults,
+        table: vec![0; f as usize],
+    };
+    let look = |page| Look(frames(held(f, f), page));
+    let fault = |table| Fault(frames(table, UNMAPPED));
+    let size = format!(", F = {f}");
+    vec![
+        named("look, page in one of the first frames", &size, look(first)),
+        named("look, page in one of the last frames", &size, look(last)),
+        named("fault, empty table", &size, fault(held(f, 0))),
+        named("fault, half-full table", &size, fault(held(f, f / 2))),
+        named("fault, nearly full table", &size, fault(nearly_full(f))),
+        named("boot", &format!(" of {faults} faults{size}"), boot),
+        named(
+            "recolour",
+            &format!(" of {moves} frames{size}"),
+            recolouring(f),
+        ),
+    ]
+}
+
+fn plan_cases(tasks: u32) -> Vec<Named> {
+    let size = format!(", {tasks} tasks");
+    let rounds = format!("{size}, {} rounds", hard_rounds(tasks));
+    vec![
+        named(
+            "admission, typical plan",
+            &size,
+            Admission::new(typical(tasks), ADMITTED, false),
+        ),
+        named(
+            "admission, hard plan",
+            &rounds,
+            Admission::new(hard(tasks), LATE, false),
+        ),
+    ]
+}
+
+/// Every call at full size.
+pub fn full_size() -> Vec<Named> {
+    let mut cases = frame_cases(4096);
+    cases.push(named("layout", "", Pages::new(false)));
+    cases.push(named("bleaching", "", Pages::new(true)));
+    cases.extend(plan_cases(32));
+    cases
+}
+
+/// The plans against a baseline that keeps the charges of earlier tasks between the rounds.
+pub fn keeping() -> Vec<Named> {
+    vec![
+        named(
+            "admission, typical plan",
+            ", 32 tasks, charges kept",
+            Admission::new(typical(32), ADMITTED, true),
+        ),
+        named(
+            "admission, hard plan",
+            ", 32 tasks, charges kept",
+            Admission::new(hard(32), LATE, true),
+        ),
+    ]
+}
+
+/// The calls at several sizes, and what the sizes count.
+pub struct Growth {
+    pub unit: &'static str,
+    pub sizes: Vec<u32>,
+    /// For each size the cases, in one order.
+    pub cases: Vec<Vec<Named>>,
+}
+
+pub fn growth() -> [Growth; 2] {
+    let [f, tasks] = [vec![256, 1024, 4096], vec![4, 8, 16, 32]];
+    [
+        Growth {
+            unit: "F =",
+            cases: f.iter().map(|f| frame_cases(*f)).collect(),
+            sizes: f,
+        },
+        Growth {
+            unit: "tasks:",
+            cases: tasks.iter().map(|tasks| plan_cases(*tasks)).collect(),
+            sizes: tasks,
+        },
+    ]
+}
+
+/// All cases, some of them twice.
+pub fn all() -> impl Iterator<Item = Named> {
+    let grown = growth().into_iter().flat_map(|growth| growth.cases);
+    full_size()
+        .into_iter()
+        .chain(keeping())
+        .chain(grown.flatten())
+}

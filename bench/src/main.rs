@@ -1,0 +1,179 @@
+//! The benchmark: the linked library through its C interface against a baseline in plain Rust, by the
+//! same methods and on the same inputs, in one run. Both sides are seen to answer alike before anything
+//! is measured. It prints Markdown.
+
+mod cases;
+mod inputs;
+mod measure;
+mod ours;
+
+use std::process::ExitCode;
+
+use inputs::{all, full_size, growth, keeping, Growth, Named};
+use measure::Pair;
+
+const USAGE: &str = "usage: bench check | times | instructions | all
+       bench one CASE ours|base CALLS
+  check         says whether both sides answer alike
+  times         medians in nanoseconds for each call
+  instructions  counts of instructions inside each function, by valgrind
+  all           both, as in docs/BENCHMARK.md
+  one           calls one side of one case";
+
+/// The ratio that is aimed at.
+const GOAL: f64 = 1.1;
+
+fn main() -> ExitCode {
+    let words: Vec<String> = std::env::args().skip(1).collect();
+    let words: Vec<&str> = words.iter().map(String::as_str).collect();
+    let good = match words.as_slice() {
+        ["check"] => check(),
+        ["times"] => check() && report(&[What::Times]),
+        ["instructions"] => check() && report(&[What::Instructions]),
+        ["all"] => check() && report(&[What::Times, What::Instructions]),
+        ["one", name, side, calls] => one(name, side, calls),
+        _ => {
+            eprintln!("{USAGE}");
+            return ExitCode::from(2);
+        }
+    };
+    match good {
+        true => ExitCode::SUCCESS,
+        false => ExitCode::FAILURE,
+    }
+}
+
+fn check() -> bool {
+    let mut good = true;
+    for mut named in all() {
+        if !named.case.agree() {
+            eprintln!("{}: the two sides do not answer alike", named.name);
+            good = false;
+        }
+    }
+    good
+}
+
+/// What is measured of a case.
+#[derive(Clone, Copy)]
+enum What {
+    Times,
+    Instructions,
+}
+
+impl What {
+    fn head(self) -> &'static str {
+        match self {
+            What::Times => " ours, ns | Rust, ns | ratio |",
+            What::Instructions => " ours, instructions | Rust, instructions | ratio |",
+        }
+    }
+
+    /// None where it cannot be measured here.
+    fn measure(self, named: &mut Named) -> Option<Pair> {
+        match self {
+            What::Times => Some(measure::times(&mut *named.case)),
+            What::Instructions => measure::instructions(&named.name, &*named.case),
+        }
+    }
+
+    fn number(self, number: f64) -> String {
+        match self {
+            What::Times if number < 1000.0 => format!("{number:.1}"),
+            _ => format!("{number:.0}"),
+        }
+    }
+
+    /// The two numbers and their ratio, with a mark above the goal.
+    fn cells(self, pair: Option<Pair>) -> [String; 3] {
+        let Some(pair) = pair else {
+            return [(); 3].map(|()| "–".to_string());
+        };
+        let ratio = format!("{:.2}", pair.ratio);
+        let ratio = match pair.ratio > GOAL {
+            true => format!("{ratio} (above)"),
+            false => ratio,
+        };
+        [self.number(pair.ours), self.number(pair.base), ratio]
+    }
+}
+
+fn table(heading: &str, text: &str, cases: Vec<Named>, whats: &[What]) {
+    println!("\n## {heading}\n\n{text}\n");
+    let heads: String = whats.iter().map(|what| what.head()).collect();
+    println!("| call |{heads}\n|---|{}", "--:|".repeat(3 * whats.len()));
+    for mut named in cases {
+        let mut row = format!("| {} |", named.name);
+        for what in whats {
+            let [ours, base, ratio] = what.cells(what.measure(&mut named));
+            row += &format!(" {ours} | {base} | {ratio} |");
+        }
+        println!("{row}");
+    }
+}
+
+/// A row for each call and a column for each size.
+fn growth_table(growth: Growth, what: What) {
+    let sizes = growth.sizes.iter();
+    let heads: String = sizes
+        .map(|size| format!(" {} {size} |", growth.unit))
+        .collect();
+    println!(
+        "\n| call |{heads}\n|---|{}",
+        "--:|".repeat(growth.sizes.len())
+    );
+    let mut columns: Vec<_> = growth.cases.into_iter().map(Vec::into_iter).collect();
+    loop {
+        let cases: Vec<Named> = columns.iter_mut().filter_map(Iterator::next).collect();
+        let Some(first) = cases.first() else {
+            return;
+        };
+        let mut row = format!("| {} |", first.kind);
+        for mut named in cases {
+            let [ours, base, ratio] = what.cells(what.measure(&mut named));
+            row += &format!(" {ours} / {base}, {ratio} |");
+        }
+        println!("{row}");
+    }
+}
+
+fn report(whats: &[What]) -> bool {
+    let board = "N = 16. Look, fault and boot are on a board of four domains.";
+    let plan = "The hard plan is refused with 22 at its last row, after that many rounds.";
+    let text = format!("{board} {plan}");
+    table("Calls at full size", &text, full_size(), whats);
+    let text = "Another method: the baseline keeps what an arrival of each earlier task costs, with reload, \
+                between the rounds of a search.";
+    table(
+        "Against a baseline that keeps charges",
+        text,
+        keeping(),
+        whats,
+    );
+    for what in whats {
+        match what {
+            What::Times => println!("\n## How the time grows\n\nNanoseconds, ours / Rust, ratio."),
+            What::Instructions => {
+                println!("\n## How the instructions grow\n\nOurs / Rust, ratio.")
+            }
+        }
+        for growth in growth() {
+            growth_table(growth, *what);
+        }
+    }
+    true
+}
+
+/// One side of the case with that name.
+fn one(name: &str, side: &str, calls: &str) -> bool {
+    let found = all().find(|named| named.name == name);
+    let (Some(mut named), Ok(calls)) = (found, calls.parse()) else {
+        return false;
+    };
+    match side {
+        "ours" => named.case.run_ours(calls),
+        "base" => named.case.run_base(calls),
+        _ => return false,
+    }
+    true
+}

@@ -1,0 +1,125 @@
+//! The linked library through its C interface, and all unsafe code of the benchmark. Replies are handed
+//! on as the interface gives them.
+
+use baseline::Board;
+use juzvanec::raw;
+
+/// The number and row of a reply, and its other numbers.
+pub type Reply = (u32, u32, [u32; 2]);
+
+#[inline(always)]
+pub fn layout(colours: u32, set: u32, index: u32) -> Reply {
+    let [mut page, mut row] = [0; 2];
+    // SAFETY: two words of this function's own are lent.
+    let number = unsafe { raw::juzvanec_layout(colours, set, index, &mut page, &mut row) };
+    (number, row, [page, 0])
+}
+
+#[inline(always)]
+pub fn bleach(colours: u32, set: u32, page: u32) -> Reply {
+    let [mut index, mut row] = [0; 2];
+    // SAFETY: two words of this function's own are lent.
+    let number = unsafe { raw::juzvanec_bleach(colours, set, page, &mut index, &mut row) };
+    (number, row, [index, 0])
+}
+
+#[inline(always)]
+pub fn look(board: &[u32; 19], table: &[u16], domain: u32, page: u32) -> Reply {
+    let [mut mapped, mut frame, mut row] = [0; 3];
+    // SAFETY: board and table are valid for their lengths; three words of this function's own are lent.
+    let number = unsafe {
+        raw::juzvanec_look(
+            board.as_ptr(),
+            table.as_ptr(),
+            table.len(),
+            domain,
+            page,
+            &mut mapped,
+            &mut frame,
+            &mut row,
+        )
+    };
+    (number, row, [mapped, frame])
+}
+
+#[inline(always)]
+pub fn fault(board: &[u32; 19], table: &mut [u16], domain: u32, page: u32) -> Reply {
+    let [mut is_new, mut frame, mut row] = [0; 3];
+    // SAFETY: board and table are valid for their lengths; three words of this function's own are lent.
+    let number = unsafe {
+        raw::juzvanec_fault(
+            board.as_ptr(),
+            table.as_mut_ptr(),
+            table.len(),
+            domain,
+            page,
+            &mut is_new,
+            &mut frame,
+            &mut row,
+        )
+    };
+    (number, row, [is_new, frame])
+}
+
+#[inline(always)]
+pub fn recolour(
+    board: &mut [u32; 19],
+    table: &mut [u16],
+    domain: u32,
+    set: u32,
+    moves: &mut [u16],
+) -> Reply {
+    let [mut count, mut row] = [0; 2];
+    // SAFETY: board, table and move list are valid for their lengths and lie apart; two words of this
+    // function's own are lent.
+    let number = unsafe {
+        raw::juzvanec_recolour(
+            board.as_mut_ptr(),
+            table.as_mut_ptr(),
+            table.len(),
+            domain,
+            set,
+            moves.as_mut_ptr(),
+            moves.len(),
+            &mut count,
+            &mut row,
+        )
+    };
+    (number, row, [count, 0])
+}
+
+#[inline(always)]
+pub fn admit_plan(
+    board: &[u32; 19],
+    reload: u32,
+    vcpus: &[u32],
+    tasks: &[u32],
+    times: &mut [u32],
+) -> Reply {
+    let mut row = 0;
+    // SAFETY: board and lists are valid for their lengths, and the list of times lies apart; a word of
+    // this function's own is lent.
+    let number = unsafe {
+        raw::juzvanec_admit_plan(
+            board.as_ptr(),
+            reload,
+            vcpus.as_ptr(),
+            vcpus.len(),
+            tasks.as_ptr(),
+            tasks.len(),
+            times.as_mut_ptr(),
+            times.len(),
+            &mut row,
+        )
+    };
+    (number, row, [0; 2])
+}
+
+/// The board as the words of the interface.
+pub fn words(board: &Board) -> [u32; 19] {
+    let mut words = [0; 19];
+    words[..3].copy_from_slice(&[board.colours, board.frames, board.domains]);
+    words[3..11].copy_from_slice(&board.grants);
+    words[11..].copy_from_slice(&board.active);
+    words
+}

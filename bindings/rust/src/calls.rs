@@ -1,0 +1,319 @@
+//! The functions, and all unsafe code of this package: each hands its references on to the C interface.
+//! References are valid, aligned and not null, empty slices too, and no two of them overlap where one is
+//! for writing; that is all that the interface asks.
+
+use crate::raw;
+use crate::{Board, Faulted, Looked, Refusal, Verdict, TEXT_BYTES};
+
+/// The answer, unless the number is a refusal's.
+#[inline]
+fn reply<A>(number: u32, row: u32, answer: A) -> Result<A, Refusal> {
+    match number {
+        0 => Ok(answer),
+        _ => Err(Refusal { number, row }),
+    }
+}
+
+#[inline]
+fn words(board: &Board) -> *const u32 {
+    (board as *const Board).cast()
+}
+
+/// The number N of colours of a cache of so many bytes in so many ways. Refusal 2.
+///
+/// ```
+/// assert_eq!(juzvanec::cache_colours(1_048_576, 16), Ok(16));
+/// assert_eq!(juzvanec::cache_colours(2_097_152, 16).unwrap_err().number, 2);
+/// ```
+#[inline]
+pub fn cache_colours(bytes: u64, ways: u64) -> Result<u32, Refusal> {
+    let (mut colours, mut row) = (0, 0);
+    // SAFETY: two words of this function's own are lent.
+    let number = unsafe { raw::juzvanec_cache_colours(bytes, ways, &mut colours, &mut row) };
+    reply(number, row, colours)
+}
+
+/// Coloured layout: the page of an index under a colour set of N colours. Refusals 2, 9, 10.
+///
+/// ```
+/// assert_eq!(juzvanec::layout(16, 0x00F0, 6), Ok(22));
+/// ```
+#[inline]
+pub fn layout(colours: u32, set: u32, index: u32) -> Result<u32, Refusal> {
+    let (mut page, mut row) = (0, 0);
+    // SAFETY: two words of this function's own are lent.
+    let number = unsafe { raw::juzvanec_layout(colours, set, index, &mut page, &mut row) };
+    reply(number, row, page)
+}
+
+/// Bleaching: the index of a page under a colour set of N colours. Refusals 2, 9, 10, 11.
+///
+/// ```
+/// assert_eq!(juzvanec::bleach(16, 0x00F0, 22), Ok(6));
+/// assert_eq!(juzvanec::bleach(16, 0x0005, 17).unwrap_err().number, 11);
+/// ```
+#[inline]
+pub fn bleach(colours: u32, set: u32, page: u32) -> Result<u32, Refusal> {
+    let (mut index, mut row) = (0, 0);
+    // SAFETY: two words of this function's own are lent.
+    let number = unsafe { raw::juzvanec_bleach(colours, set, page, &mut index, &mut row) };
+    reply(number, row, index)
+}
+
+/// The lowest frame that the domain holds for the page, or unmapped. Refusals 2 to 8, 10.
+///
+/// ```
+/// use juzvanec::{look, Board, Looked};
+///
+/// let board = Board::new(4, 3, &[0x3, 0xC]);
+/// assert_eq!(look(&board, &[0, 10, 10], 0, 9), Ok(Looked::Mapped(1)));
+/// assert_eq!(look(&board, &[0, 10, 10], 1, 9), Ok(Looked::Unmapped));
+/// ```
+#[inline]
+pub fn look(board: &Board, table: &[u16], domain: u32, page: u32) -> Result<Looked, Refusal> {
+    let (mut mapped, mut frame, mut row) = (0, 0, 0);
+    // SAFETY: the board has 19 words and the table as many as it says; three words of this function's
+    // own are lent for writing.
+    let number = unsafe {
+        raw::juzvanec_look(
+            words(board),
+            table.as_ptr(),
+            table.len(),
+            domain,
+            page,
+            &mut mapped,
+            &mut frame,
+            &mut row,
+        )
+    };
+    let looked = match mapped {
+        0 => Looked::Unmapped,
+        _ => Looked::Mapped(frame as usize),
+    };
+    reply(number, row, looked)
+}
+
+/// If the page is mapped, its lowest frame; else the lowest free frame with a colour in the domain's
+/// active set, which gets the page's word. Refusals 2 to 8, 10, 12.
+///
+/// ```
+/// use juzvanec::{fault, Board, Faulted};
+///
+/// let board = Board::new(4, 3, &[0x3, 0xC]);
+/// let mut table = [0; 3];
+/// assert_eq!(fault(&board, &mut table, 1, 0), Ok(Faulted::New(2)));
+/// assert_eq!(table, [0, 0, 4097]);
+/// assert_eq!(fault(&board, &mut table, 1, 1).unwrap_err().number, 12);
+/// ```
+#[inline]
+pub fn fault(board: &Board, table: &mut [u16], domain: u32, page: u32) -> Result<Faulted, Refusal> {
+    let (mut is_new, mut frame, mut row) = (0, 0, 0);
+    // SAFETY: the board has 19 words and the table as many as it says; the table and three words of this
+    // function's own are lent for writing.
+    let number = unsafe {
+        raw::juzvanec_fault(
+            words(board),
+            table.as_mut_ptr(),
+            table.len(),
+            domain,
+            page,
+            &mut is_new,
+            &mut frame,
+            &mut row,
+        )
+    };
+    let faulted = match is_new {
+        0 => Faulted::Old(frame as usize),
+        _ => Faulted::New(frame as usize),
+    };
+    reply(number, row, faulted)
+}
+
+/// The lowest frame that the domain holds for the page becomes free; the answer is its number. Refusals 2
+/// to 8, 10, 14.
+///
+/// ```
+/// use juzvanec::{release, Board};
+///
+/// let board = Board::new(4, 3, &[0x3, 0xC]);
+/// let mut table = [0, 10, 10];
+/// assert_eq!(release(&board, &mut table, 0, 9), Ok(1));
+/// assert_eq!(table, [0, 0, 10]);
+/// ```
+#[inline]
+pub fn release(board: &Board, table: &mut [u16], domain: u32, page: u32) -> Result<usize, Refusal> {
+    let (mut frame, mut row) = (0, 0);
+    // SAFETY: the board has 19 words and the table as many as it says; the table and two words of this
+    // function's own are lent for writing.
+    let number = unsafe {
+        raw::juzvanec_release(
+            words(board),
+            table.as_mut_ptr(),
+            table.len(),
+            domain,
+            page,
+            &mut frame,
+            &mut row,
+        )
+    };
+    reply(number, row, frame as usize)
+}
+
+/// The domain's active set. Refusals 2 to 8.
+///
+/// ```
+/// use juzvanec::{colours, Board};
+///
+/// assert_eq!(colours(&Board::new(4, 3, &[0x3, 0xC]), &[0; 3], 1), Ok(0xC));
+/// ```
+#[inline]
+pub fn colours(board: &Board, table: &[u16], domain: u32) -> Result<u32, Refusal> {
+    let (mut set, mut row) = (0, 0);
+    // SAFETY: the board has 19 words and the table as many as it says; two words of this function's own
+    // are lent for writing.
+    let number = unsafe {
+        raw::juzvanec_colours(
+            words(board),
+            table.as_ptr(),
+            table.len(),
+            domain,
+            &mut set,
+            &mut row,
+        )
+    };
+    reply(number, row, set)
+}
+
+/// Makes the set active: the domain's frames outside it, ascending, go to the free frames inside it,
+/// ascending. The answer is the count of moves; the move list gets a page, an old and a new frame for
+/// each, and its rest does not change. The order of the moves is left open. Refusals 2 to 9, 12, 13.
+///
+/// ```
+/// use juzvanec::{recolour, Board};
+///
+/// let mut board = Board::new(4, 8, &[0x3, 0xC]);
+/// let mut table = [10, 2, 4097, 0, 0, 0, 0, 0];
+/// let mut moves = [0; 12];
+/// let count = recolour(&mut board, &mut table, 0, 0x1, &mut moves).unwrap();
+/// for triple in moves[..3 * count].chunks_exact(3) {
+///     println!("page {} goes from frame {} to frame {}", triple[0], triple[1], triple[2]);
+/// }
+/// assert_eq!(moves[..3 * count], [1, 1, 4]);
+/// assert_eq!(board.active[0], 0x1);
+/// ```
+#[inline]
+pub fn recolour(
+    board: &mut Board,
+    table: &mut [u16],
+    domain: u32,
+    set: u32,
+    moves: &mut [u16],
+) -> Result<usize, Refusal> {
+    let (mut count, mut row) = (0, 0);
+    // SAFETY: the board has 19 words, and the table and the move list as many as they say; all three and
+    // two words of this function's own are lent for writing.
+    let number = unsafe {
+        raw::juzvanec_recolour(
+            (board as *mut Board).cast(),
+            table.as_mut_ptr(),
+            table.len(),
+            domain,
+            set,
+            moves.as_mut_ptr(),
+            moves.len(),
+            &mut count,
+            &mut row,
+        )
+    };
+    reply(number, row, count as usize)
+}
+
+/// The rows of one VCPU, as that part of the caller's task words: from its first row up to the next row
+/// of another. Words short of a row belong to none.
+///
+/// ```
+/// let mut tasks = [0; 60];
+/// tasks[20..40].fill(1);
+/// assert_eq!(juzvanec::part(&tasks, 1), [1; 20]);
+/// assert!(juzvanec::part(&tasks, 2).is_empty());
+/// ```
+#[inline]
+pub fn part(tasks: &[u32], vcpu: u32) -> &[u32] {
+    let (mut start, mut length) = (0, 0);
+    // SAFETY: the list has as many words as it says; two words of this function's own are lent for
+    // writing.
+    unsafe { raw::juzvanec_part(tasks.as_ptr(), tasks.len(), vcpu, &mut start, &mut length) };
+    &tasks[start..][..length]
+}
+
+/// Admits a plan: the times of the VCPUs and then of the tasks, in row order, go to the front of the list
+/// of times, whose rest does not change. Refusals 2 to 7, 15 to 22.
+///
+/// ```
+/// use juzvanec::{admit_plan, Board};
+///
+/// let board = Board::new(16, 64, &[0xFF]);
+/// let mut task = vec![0, 4000, 4000, 0x3];
+/// task.extend([1000; 16]);
+/// let mut times = [0; 2];
+/// let vcpus = [0, 0, 10_000, 10_000];
+/// assert_eq!(admit_plan(&board, 100, &vcpus, &task, &mut times), Ok(()));
+/// assert_eq!(times, [10_000, 1000]);
+/// ```
+#[inline]
+pub fn admit_plan(
+    board: &Board,
+    reload: u32,
+    vcpus: &[u32],
+    tasks: &[u32],
+    times: &mut [u32],
+) -> Result<(), Refusal> {
+    let mut row = 0;
+    // SAFETY: the board has 19 words and the lists as many as they say; the list of times and a word of
+    // this function's own are lent for writing.
+    let number = unsafe {
+        raw::juzvanec_admit_plan(
+            words(board),
+            reload,
+            vcpus.as_ptr(),
+            vcpus.len(),
+            tasks.as_ptr(),
+            tasks.len(),
+            times.as_mut_ptr(),
+            times.len(),
+            &mut row,
+        )
+    };
+    reply(number, row, ())
+}
+
+/// The program `admit`, from the bytes that it reads to the text that it prints. Refusals 1 to 7, 15 to
+/// 22, in the verdict.
+///
+/// ```
+/// let verdict = juzvanec::admit(b"no plan");
+/// assert_eq!(verdict.text(), b"refused 1 0\n");
+/// assert_eq!(verdict.admitted().unwrap_err().number, 1);
+/// ```
+pub fn admit(input: &[u8]) -> Verdict {
+    let mut text = [0; TEXT_BYTES];
+    let (mut length, mut words, mut row) = (0, 0, 0);
+    // SAFETY: the input has as many bytes as it says and the text 1,024; the text and three words of this
+    // function's own are lent for writing.
+    let number = unsafe {
+        raw::juzvanec_admit(
+            input.as_ptr(),
+            input.len(),
+            text.as_mut_ptr(),
+            &mut length,
+            &mut words,
+            &mut row,
+        )
+    };
+    Verdict {
+        text,
+        length: length as usize,
+        words: words as usize,
+        refusal: reply(number, row, ()).err(),
+    }
+}

@@ -1,0 +1,103 @@
+//! Cache-coloured frames for guest systems and the admission of task plans: safe functions over the
+//! proved library `libjuzvanec.a`. Terms, numbers and refusals are those of document 01. Nothing here
+//! allocates, and a refused call changes nothing that was lent.
+//!
+//! ```
+//! use juzvanec::{fault, Board, Faulted, FREE};
+//!
+//! // four colours, eight frames, two guests with two colours each
+//! let board = Board::new(4, 8, &[0x3, 0xC]);
+//! let mut table = [FREE; 8];
+//! assert_eq!(fault(&board, &mut table, 0, 9), Ok(Faulted::New(0)));
+//! assert_eq!(fault(&board, &mut table, 1, 0), Ok(Faulted::New(2)));
+//! assert_eq!(fault(&board, &mut table, 0, 9), Ok(Faulted::Old(0)));
+//! ```
+
+#![no_std]
+#![deny(unsafe_code)]
+#![warn(missing_docs)]
+
+mod board;
+mod refusal;
+mod text;
+
+#[allow(unsafe_code)]
+mod calls;
+
+pub mod raw;
+
+pub use board::Board;
+pub use calls::{
+    admit, admit_plan, bleach, cache_colours, colours, fault, layout, look, part, recolour, release,
+};
+pub use refusal::{Refusal, RowNames};
+pub use text::Verdict;
+
+/// The most domains of a board.
+pub const DOMAINS: usize = 8;
+/// The most frames of a board.
+pub const FRAMES: usize = 4096;
+/// The most VCPU rows of a plan.
+pub const VCPUS: usize = 16;
+/// The most task rows of a plan.
+pub const TASKS: usize = 32;
+/// The words of a VCPU row: core, domain, period, budget.
+pub const VCPU_WORDS: usize = 4;
+/// The words of a task row: VCPU, period, deadline, colour set, and costs for 1 to 16 colours.
+pub const TASK_WORDS: usize = 20;
+/// The words of a move: page, old frame, new frame.
+pub const MOVE_WORDS: usize = 3;
+/// The bytes that hold every text of [`admit`].
+pub const TEXT_BYTES: usize = 1024;
+/// The last page that a domain can hold a frame for.
+pub const LAST_PAGE: u32 = 4095;
+/// The last index that can be laid out.
+pub const LAST_INDEX: u32 = (1 << 24) - 1;
+/// The last page that can be bleached.
+pub const LAST_BLEACHED: u32 = (1 << 28) - 1;
+
+/// The word of a free frame.
+pub const FREE: u16 = 0;
+/// The word of a frame reserved for the hypervisor.
+pub const RESERVED: u16 = 65_535;
+
+/// The word of a frame that the domain holds for the page; none for a domain above 7 or a page above
+/// 4,095.
+///
+/// ```
+/// assert_eq!(juzvanec::page_word(1, 0), Some(4097));
+/// assert_eq!(juzvanec::page_word(8, 0), None);
+/// ```
+pub const fn page_word(domain: u32, page: u32) -> Option<u16> {
+    if domain as usize >= DOMAINS || page > LAST_PAGE {
+        return None;
+    }
+    Some(1 + 4096 * domain as u16 + page as u16)
+}
+
+/// What a look finds.
+#[derive(Clone, Copy, Debug, PartialEq, Eq, Hash)]
+pub enum Looked {
+    /// The lowest frame that the domain holds for the page.
+    Mapped(usize),
+    /// The domain holds no frame for the page.
+    Unmapped,
+}
+
+/// What a fault answers.
+#[derive(Clone, Copy, Debug, PartialEq, Eq, Hash)]
+pub enum Faulted {
+    /// The page had this frame already.
+    Old(usize),
+    /// The page has this frame now; it was free.
+    New(usize),
+}
+
+impl Faulted {
+    /// The frame, old or new.
+    pub fn frame(self) -> usize {
+        match self {
+            Faulted::Old(frame) | Faulted::New(frame) => frame,
+        }
+    }
+}

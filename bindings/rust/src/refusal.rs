@@ -1,0 +1,95 @@
+//! Refusals: their numbers, what each means and what its row names.
+
+use core::fmt;
+
+/// Why a call was refused: document 01's number, and the lowest domain or row at fault, or else 0.
+///
+/// ```
+/// use juzvanec::{fault, Board};
+///
+/// let board = Board::new(4, 8, &[0x3, 0x6]);
+/// let refusal = fault(&board, &mut [0; 8], 0, 9).unwrap_err();
+/// assert_eq!((refusal.number, refusal.row), (6, 0));
+/// assert_eq!(
+///     refusal.to_string(),
+///     "refused 6, domain 0: a grant shares a colour with another"
+/// );
+/// ```
+#[derive(Clone, Copy, Debug, PartialEq, Eq, Hash)]
+pub struct Refusal {
+    /// 1 to 22.
+    pub number: u32,
+    /// What it counts is told by [`Refusal::row_names`].
+    pub row: u32,
+}
+
+/// What the row of a refusal names.
+#[derive(Clone, Copy, Debug, PartialEq, Eq, Hash)]
+pub enum RowNames {
+    /// A domain of the board.
+    Domain,
+    /// A VCPU row of the plan.
+    Vcpu,
+    /// A task row of the plan.
+    Task,
+    /// Nothing; the row is 0.
+    Nothing,
+}
+
+impl Refusal {
+    /// What the row names.
+    pub fn row_names(&self) -> RowNames {
+        match self.number {
+            5..=7 => RowNames::Domain,
+            17 | 21 => RowNames::Vcpu,
+            18..=20 | 22 => RowNames::Task,
+            _ => RowNames::Nothing,
+        }
+    }
+
+    /// What the number means.
+    pub fn meaning(&self) -> &'static str {
+        match self.number {
+            1 => "a count exceeds 8 domains, 16 VCPUs or 32 tasks, or the input has another length",
+            2 => "the number of colours is not 1, 2, 4, 8 or 16",
+            3 => "the frame count is 0 or above 4,096, or the frame table has another length",
+            4 => "the domain count is 0 or above 8",
+            5 => "a grant is empty or has a colour that the cache has not",
+            6 => "a grant shares a colour with another",
+            7 => "an active set is empty or has a colour outside its grant",
+            8 => "the calling domain is not below the domain count",
+            9 => "the set is empty or has a colour that is not granted, or that the cache has not",
+            10 => "the page or index exceeds its limit",
+            11 => "the page to bleach has a colour outside the set",
+            12 => "there are too few free frames in the set",
+            13 => "the move list is shorter than three words for each move",
+            14 => "the page to release is unmapped",
+            15 => "the reload exceeds 10,000, or the VCPU words are none, over 64 or no whole rows",
+            16 => {
+                "the task words are none, over 640 or no whole rows, or the list of times is short"
+            }
+            17 => "a field of the VCPU row is outside its range",
+            18 => "a field or cost of the task row is outside its rule",
+            19 => "the task row names a lower VCPU than the row before",
+            20 => "the task row shares a colour with a row of another VCPU",
+            21 => "the VCPU has no time up to its period",
+            22 => "the task has no time up to its deadline",
+            _ => "no such refusal",
+        }
+    }
+}
+
+impl fmt::Display for Refusal {
+    fn fmt(&self, f: &mut fmt::Formatter) -> fmt::Result {
+        write!(f, "refused {}", self.number)?;
+        match self.row_names() {
+            RowNames::Domain => write!(f, ", domain {}", self.row)?,
+            RowNames::Vcpu => write!(f, ", VCPU row {}", self.row)?,
+            RowNames::Task => write!(f, ", task row {}", self.row)?,
+            RowNames::Nothing => {}
+        }
+        write!(f, ": {}", self.meaning())
+    }
+}
+
+impl core::error::Error for Refusal {}

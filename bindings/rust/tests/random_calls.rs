@@ -1,0 +1,206 @@
+//! Thousands of random calls through the binding, each held against plain properties: refusals change
+//! nothing, faults and looks agree, no guest gets another's colours, moves account for the table.
+
+use std::collections::BTreeSet;
+
+use juzvanec::*;
+
+/// Numbers from a seed (xorshift).
+struct Random(u64);
+
+impl Random {
+    fn below(&mut self, n: u64) -> u64 {
+        self.0 ^= self.0 << 13;
+        self.0 ^= self.0 >> 7;
+        self.0 ^= self.0 << 17;
+        (self.0 >> 11) % n
+    }
+
+    /// Mostly below n, at times any number.
+    fn mostly(&mut self, n: u64) -> u32 {
+        match self.below(12) {
+            0 => self.below(1 << 32) as u32,
+            _ => self.below(n) as u32,
+        }
+    }
+}
+
+struct Machine {
+    board: Board,
+    table: Vec<u16>,
+}
+
+impl Machine {
+    fn new(random: &mut Random) -> Self {
+        let frames = 1 + random.below(60) as u32;
+        let board = Board::new(8, frames, &[0x13, 0x64, 0x80]);
+        let empty = |_| [FREE, FREE, FREE, RESERVED][random.below(4) as usize];
+        let table = (0..frames).map(empty).collect();
+        Machine { board, table }
+    }
+
+    /// Every frame that a guest holds has a colour of its grant.
+    fn apart(&self) -> bool {
+        self.table.iter().enumerate().all(|(frame, word)| {
+            *word == FREE || *word == RESERVED || {
+                let domain = usize::from((word - 1) / 4096);
+                self.board.grants[domain] >> (frame % 8) & 1 == 1
+            }
+        })
+    }
+
+    fn held(&self, domain: u32) -> usize {
+        let own = |word: &&u16| **word != FREE && u32::from((**word - 1) / 4096) == domain;
+        self.table.iter().filter(own).count()
+    }
+
+    fn fault(&mut self, domain: u32, page: u32) {
+        let before = self.table.clone();
+        let seen = look(&self.board, &self.table, domain, page);
+        match fault(&self.board, &mut self.table, domain, page) {
+            Err(Refusal { number, .. }) => {
+                assert!([8, 10, 12].contains(&number));
+                assert_eq!(self.table, before);
+            }
+            Ok(Faulted::Old(frame)) => {
+                assert_eq!(seen, Ok(Looked::Mapped(frame)));
+                assert_eq!(self.table, before);
+            }
+            Ok(Faulted::New(frame)) => {
+                assert_eq!(seen, Ok(Looked::Unmapped));
+                assert_eq!(before[frame], FREE);
+                let mut expected = before;
+                expected[frame] = page_word(domain, page).unwrap();
+                assert_eq!(self.table, expected);
+                let now = look(&self.board, &self.table, domain, page);
+                assert_eq!(now, Ok(Looked::Mapped(frame)));
+            }
+        }
+    }
+
+    fn release(&mut self, domain: u32, page: u32) {
+        let before = self.table.clone();
+        match release(&self.board, &mut self.table, domain, page) {
+            Err(Refusal { number, .. }) => {
+                assert!([8, 10, 14].contains(&number));
+                assert_eq!(self.table, before);
+            }
+            Ok(frame) => {
+                assert_eq!(Some(before[frame]), page_word(domain, page));
+                assert_eq!(self.table[frame], FREE);
+                let again = look(&self.board, &self.table, domain, page);
+                assert_eq!(again, Ok(Looked::Unmapped));
+            }
+        }
+    }
+
+    fn recolour(&mut self, domain: u32, set: u32, room: usize) {
+        let before = (self.board, self.table.clone());
+        let mut moves = vec![9; room];
+        match recolour(&mut self.board, &mut self.table, domain, set, &mut moves) {
+            Err(Refusal { number, .. }) => {
+                assert!([8, 9, 12, 13].contains(&number));
+                assert_eq!((self.board, &self.table), (before.0, &before.1));
+                assert_eq!(moves, vec![9; room]);
+            }
+            Ok(count) => {
+                let (triples, rest) = moves.split_at(MOVE_WORDS * count);
+                assert!(rest.iter().all(|word| *word == 9));
+                self.moved(domain, set, before.1, triples);
+            }
+        }
+    }
+
+    /// The triples lead from the table before to the table now.
+    fn moved(&self, domain: u32, set: u32, mut table: Vec<u16>, triples: &[u16]) {
+        let mut touched = BTreeSet::new();
+        for triple in triples.chunks_exact(MOVE_WORDS) {
+            let [page, old, new] = [triple[0], triple[1], triple[2]].map(usize::from);
+            assert!(touched.insert(old) && touched.insert(new));
+            assert_eq!(Some(table[old]), page_word(domain, page as u32));
+            assert_eq!(table[new], FREE);
+            assert!(set >> (old % 8) & 1 == 0 && set >> (new % 8) & 1 == 1);
+            table.swap(old, new);
+        }
+        assert_eq!(table, self.table);
+        assert_eq!(colours(&self.board, &self.table, domain), Ok(set));
+    }
+}
+
+#[test]
+fn frames() {
+    let mut random = Random(2003);
+    let mut most = 0;
+    for _ in 0..300 {
+        let mut machine = Machine::new(&mut random);
+        for _ in 0..100 {
+            let domain = random.mostly(3);
+            let page = random.mostly(12);
+            let others: Vec<usize> = (0..3).map(|other| machine.held(other)).collect();
+            match random.below(8) {
+                0 | 1 => machine.release(domain, page),
+                2 => {
+                    let grant = machine.board.grants.get(domain as usize).unwrap_or(&1);
+                    let set = random.mostly(256) & (grant | random.below(2) as u32);
+                    machine.recolour(domain, set, random.below(40) as usize);
+                }
+                _ => machine.fault(domain, page),
+            }
+            assert!(machine.apart());
+            for other in (0..3).filter(|other| *other != domain) {
+                assert_eq!(machine.held(other), others[other as usize]);
+            }
+            most = most.max(machine.held(0));
+        }
+    }
+    assert!(most >= 8, "tables fill up");
+}
+
+/// A laid-out page bleaches back, and its colour is in the set.
+#[test]
+fn pages() {
+    let mut random = Random(2004);
+    let mut answered = 0;
+    for _ in 0..20_000 {
+        let n = 1 << random.below(6);
+        let set = random.mostly(1 << n);
+        let index = random.mostly(1 << 24);
+        if let Ok(page) = layout(n, set, index) {
+            answered += 1;
+            assert_eq!(set >> (page % n) & 1, 1);
+            assert_eq!(bleach(n, set, page), Ok(index));
+        }
+    }
+    assert!(answered > 5000);
+}
+
+/// The times of a plan stay in their limits, and a longer list of tasks leaves the earlier times alone.
+#[test]
+fn plans() {
+    let mut random = Random(2005);
+    let mut admitted = 0;
+    let board = Board::new(16, 64, &[0xFFFF]);
+    for _ in 0..3000 {
+        let period = 1 + random.below(2000) as u32;
+        let vcpus = [0, 0, period, 1 + random.below(period.into()) as u32];
+        let mut tasks = Vec::new();
+        let mut before: Vec<u32> = Vec::new();
+        for _ in 0..1 + random.below(5) {
+            let span = 1 + random.below(30_000) as u32;
+            tasks.extend([0, span, span, 1 + random.below(65_535) as u32]);
+            tasks.extend([1 + random.below(u64::from(span) / 9 + 1) as u32; 16]);
+            let mut times = [7; 8];
+            let Ok(()) = admit_plan(&board, 10, &vcpus, &tasks, &mut times) else {
+                assert_eq!(times, [7; 8]);
+                break;
+            };
+            admitted += 1;
+            let rows = 1 + tasks.len() / TASK_WORDS;
+            assert!(times[..rows - 1].starts_with(&before));
+            assert!(times[rows..].iter().all(|word| *word == 7));
+            assert!((1..=span).contains(&times[rows - 1]));
+            before = times[..rows].to_vec();
+        }
+    }
+    assert!(admitted > 1500);
+}

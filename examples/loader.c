@@ -1,0 +1,238 @@
+/*
+ * A loader in small: it asks for the colours of its cache, boots a board with two guests, faults pages in,
+ * recolours a guest, and admits the plan of document 01. Each reply is held against what document 01 says,
+ * and the exit status is 1 where one differs.
+ */
+#include <stdio.h>
+#include <string.h>
+
+#include "juzvanec.h"
+
+#define FRAMES 8u
+#define TASKS 2u
+#define INPUT_WORDS (11u + TASKS * JUZVANEC_TASK_WORDS)
+
+static int differences = 0;
+
+/* Counts and shows a number that is not the one expected. */
+static void expect(const char *what, uint32_t got, uint32_t expected)
+{
+    if (got != expected) {
+        printf("DIFFERENT: %s is %lu, not %lu\n", what, (unsigned long)got, (unsigned long)expected);
+        differences++;
+    }
+}
+
+static void show_cache(uint64_t bytes, uint64_t ways, uint32_t expected)
+{
+    uint32_t colours, row;
+    uint32_t number = juzvanec_cache_colours(bytes, ways, &colours, &row);
+
+    printf("cache of %lu bytes in %lu ways: ", (unsigned long)bytes, (unsigned long)ways);
+    if (number == JUZVANEC_ANSWERED)
+        printf("%lu colours\n", (unsigned long)colours);
+    else
+        printf("refused %lu\n", (unsigned long)number);
+    expect("colours", colours, expected);
+    expect("refusal", number, expected ? JUZVANEC_ANSWERED : JUZVANEC_REFUSED_COLOURS);
+}
+
+static void show_pages(void)
+{
+    uint32_t page, index, row;
+
+    expect("layout", juzvanec_layout(16, 0x00F0, 6, &page, &row), JUZVANEC_ANSWERED);
+    expect("bleach", juzvanec_bleach(16, 0x00F0, page, &index, &row), JUZVANEC_ANSWERED);
+    printf("set 0x00F0 of 16: index 6 is page %lu and back %lu\n", (unsigned long)page,
+           (unsigned long)index);
+    expect("page", page, 22);
+    expect("index", index, 6);
+}
+
+/* Two guests with two colours each, all of them active; eight free frames. */
+static void boot(uint32_t *board, uint16_t *table)
+{
+    memset(board, 0, JUZVANEC_BOARD_WORDS * sizeof *board);
+    memset(table, 0, FRAMES * sizeof *table);
+    board[JUZVANEC_BOARD_COLOURS] = 4;
+    board[JUZVANEC_BOARD_FRAMES] = FRAMES;
+    board[JUZVANEC_BOARD_DOMAINS] = 2;
+    board[JUZVANEC_BOARD_GRANTS + 0] = board[JUZVANEC_BOARD_ACTIVE + 0] = 0x3;
+    board[JUZVANEC_BOARD_GRANTS + 1] = board[JUZVANEC_BOARD_ACTIVE + 1] = 0xC;
+}
+
+/* A fault that gets a new frame, or is refused. */
+static void show_fault(const uint32_t *board, uint16_t *table, uint32_t domain, uint32_t page,
+                       uint32_t expected, uint32_t expected_frame)
+{
+    uint32_t is_new, frame, row;
+    uint32_t number = juzvanec_fault(board, table, FRAMES, domain, page, &is_new, &frame, &row);
+
+    printf("domain %lu faults page %lu: ", (unsigned long)domain, (unsigned long)page);
+    if (number == JUZVANEC_ANSWERED)
+        printf("%s frame %lu\n", is_new ? "new" : "old", (unsigned long)frame);
+    else
+        printf("refused %lu\n", (unsigned long)number);
+    expect("refusal", number, expected);
+    expect("frame", frame, expected_frame);
+    expect("new", is_new, number == JUZVANEC_ANSWERED);
+}
+
+static void show_look(const uint32_t *board, const uint16_t *table, uint32_t domain, uint32_t page,
+                      uint32_t expected_mapped, uint32_t expected_frame)
+{
+    uint32_t mapped, frame, row;
+
+    expect("refusal", juzvanec_look(board, table, FRAMES, domain, page, &mapped, &frame, &row),
+           JUZVANEC_ANSWERED);
+    printf("domain %lu looks up page %lu: ", (unsigned long)domain, (unsigned long)page);
+    if (mapped)
+        printf("frame %lu\n", (unsigned long)frame);
+    else
+        printf("unmapped\n");
+    expect("mapped", mapped, expected_mapped);
+    expect("frame", frame, expected_frame);
+}
+
+static void show_table(const uint16_t *table, const uint16_t *expected)
+{
+    unsigned frame;
+
+    printf("table");
+    for (frame = 0; frame < FRAMES; frame++) {
+        printf(" %u", (unsigned)table[frame]);
+        expect("frame's word", table[frame], expected[frame]);
+    }
+    printf("\n");
+}
+
+/* Domain 0 gives up colour 1: its one frame there moves, and the loader copies that page. */
+static void show_recolour(uint32_t *board, uint16_t *table)
+{
+    uint16_t moves[JUZVANEC_MOVE_WORDS * FRAMES];
+    uint32_t count, set, row, i;
+
+    expect("refusal",
+           juzvanec_recolour(board, table, FRAMES, 0, 0x1, moves, sizeof moves / sizeof *moves, &count, &row),
+           JUZVANEC_ANSWERED);
+    printf("domain 0 recolours to 0x1: moves %lu\n", (unsigned long)count);
+    expect("moves", count, 1);
+    for (i = 0; i < count; i++) {
+        const uint16_t *move = moves + JUZVANEC_MOVE_WORDS * i;
+
+        printf("copy page %u from frame %u to frame %u\n", (unsigned)move[0], (unsigned)move[1],
+               (unsigned)move[2]);
+    }
+    expect("refusal", juzvanec_colours(board, table, FRAMES, 0, &set, &row), JUZVANEC_ANSWERED);
+    expect("active set", set, 0x1);
+    expect("board's word", board[JUZVANEC_BOARD_ACTIVE], 0x1);
+}
+
+static void show_release(const uint32_t *board, uint16_t *table)
+{
+    uint32_t frame, row;
+
+    expect("refusal", juzvanec_release(board, table, FRAMES, 0, 9, &frame, &row), JUZVANEC_ANSWERED);
+    printf("domain 0 releases page 9: frame %lu\n", (unsigned long)frame);
+    expect("frame", frame, 0);
+    expect("refusal", juzvanec_release(board, table, FRAMES, 0, 9, &frame, &row),
+           JUZVANEC_REFUSED_UNMAPPED);
+}
+
+static void show_frames(void)
+{
+    static const uint16_t booted[FRAMES] = {JUZVANEC_PAGE_WORD(0, 9), JUZVANEC_PAGE_WORD(0, 1),
+                                            JUZVANEC_PAGE_WORD(1, 0)};
+    static const uint16_t recoloured[FRAMES] = {10, 0, 4097, 0, 2};
+    uint32_t board[JUZVANEC_BOARD_WORDS];
+    uint16_t table[FRAMES];
+
+    boot(board, table);
+    show_fault(board, table, 0, 9, JUZVANEC_ANSWERED, 0);
+    show_fault(board, table, 1, 0, JUZVANEC_ANSWERED, 2);
+    show_fault(board, table, 0, 1, JUZVANEC_ANSWERED, 1);
+    show_table(table, booted);
+    show_recolour(board, table);
+    show_table(table, recoloured);
+    show_look(board, table, 0, 1, 1, 4);
+    show_look(board, table, 1, 1, 0, 0);
+    show_fault(board, table, 0, 2, JUZVANEC_REFUSED_NO_FRAME, 0);
+    show_release(board, table);
+    show_fault(board, table, 0, 2, JUZVANEC_ANSWERED, 0);
+}
+
+/* The example of the program `admit`: N, F, domains, a grant, reload, a VCPU and two tasks. */
+static void fill_plan(uint32_t *words)
+{
+    static const uint32_t head[11] = {16, 64, 1, 255, 100, 1, 0, 0, 10000, 10000, 2};
+    static const uint32_t rows[TASKS][5] = {{0, 4000, 4000, 0x3, 1000}, {0, 10000, 10000, 0x6, 3000}};
+    unsigned task, i;
+
+    memcpy(words, head, sizeof head);
+    for (task = 0; task < TASKS; task++) {
+        uint32_t *row = words + 11 + JUZVANEC_TASK_WORDS * task;
+
+        for (i = 0; i < JUZVANEC_TASK_WORDS; i++)
+            row[i] = rows[task][i < JUZVANEC_TASK_COSTS ? i : JUZVANEC_TASK_COSTS];
+    }
+}
+
+static void show_plan(const uint32_t *words)
+{
+    static const uint32_t expected[3] = {10000, 1000, 5200};
+    const uint32_t *vcpus = words + 6, *tasks = words + 11;
+    uint32_t board[JUZVANEC_BOARD_WORDS] = {16, 64, 1};
+    uint32_t times[3] = {0, 0, 0};
+    size_t start, length;
+    uint32_t number, row;
+    unsigned i;
+
+    board[JUZVANEC_BOARD_GRANTS] = board[JUZVANEC_BOARD_ACTIVE] = 255;
+    juzvanec_part(tasks, TASKS * JUZVANEC_TASK_WORDS, 0, &start, &length);
+    printf("part of VCPU 0: words %lu to %lu\n", (unsigned long)start, (unsigned long)(start + length));
+    expect("part", (uint32_t)(start + length), 40);
+    number = juzvanec_admit_plan(board, words[4], vcpus, JUZVANEC_VCPU_WORDS, tasks,
+                                 TASKS * JUZVANEC_TASK_WORDS, times, 3, &row);
+    expect("refusal", number, JUZVANEC_ANSWERED);
+    printf("VCPU times %lu, task times %lu %lu\n", (unsigned long)times[0], (unsigned long)times[1],
+           (unsigned long)times[2]);
+    for (i = 0; i < 3; i++)
+        expect("time", times[i], expected[i]);
+    number = juzvanec_admit_plan(board, words[4], vcpus, JUZVANEC_VCPU_WORDS, tasks,
+                                 TASKS * JUZVANEC_TASK_WORDS, times, 2, &row);
+    printf("with a list of two times: refused %lu\n", (unsigned long)number);
+    expect("refusal", number, JUZVANEC_REFUSED_TASK_WORDS);
+}
+
+/* The same plan as the bytes that the program `admit` reads, whatever the byte order here. */
+static void show_admit(const uint32_t *words)
+{
+    uint8_t input[4 * INPUT_WORDS], text[JUZVANEC_TEXT_BYTES];
+    uint32_t length, taken, row;
+    unsigned i;
+
+    for (i = 0; i < sizeof input; i++)
+        input[i] = (uint8_t)(words[i / 4] >> 8 * (i % 4));
+    expect("refusal", juzvanec_admit(input, sizeof input, text, &length, &taken, &row),
+           JUZVANEC_ANSWERED);
+    fwrite(text, 1, length, stdout);
+    expect("words", taken, INPUT_WORDS);
+    expect("refusal", juzvanec_admit(input, sizeof input - 4, text, &length, &taken, &row),
+           JUZVANEC_REFUSED_INPUT);
+    fwrite(text, 1, length, stdout);
+    expect("words", taken, 0);
+}
+
+int main(void)
+{
+    uint32_t words[INPUT_WORDS];
+
+    show_cache(1048576, 16, 16);
+    show_cache(2097152, 16, 0);
+    show_pages();
+    show_frames();
+    fill_plan(words);
+    show_plan(words);
+    show_admit(words);
+    return differences != 0;
+}

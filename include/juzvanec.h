@@ -1,0 +1,180 @@
+/*
+ * Juzvanec: cache-coloured frames for guest systems and the admission of task plans, for C and C++.
+ * Link libjuzvanec.a, which asks for memcpy and memset and nothing else. Terms and numbers are those of
+ * document 01.
+ *
+ * Replies. Every function but juzvanec_part returns the number of its refusal, or 0 (JUZVANEC_ANSWERED)
+ * where it answers. Numbers that come back through pointers are always written:
+ *
+ *   it answers   *row is 0, the others are the answer
+ *   it refuses   *row is the refusal's row, the others are 0
+ *
+ * A refusal changes nothing that was lent: table, moves, times and board are as before. The row is the
+ * lowest domain at fault for 5 to 7, the lowest row of the plan at fault for 17 to 22 (a VCPU row for 17
+ * and 21, a task row for 18, 19, 20 and 22), else 0.
+ *
+ * Pointers. Each must be valid for what is read or written through it, aligned for its type and not null.
+ * Lists that are lent in one call, the board and the numbers that come back must not overlap each other. A
+ * list of length 0 may be given by any aligned pointer that is not null. Nothing else is asked of a
+ * caller: every number and every content of a list is answered or refused. No function keeps a pointer,
+ * has memory of its own, or calls anything but memcpy and memset.
+ */
+#ifndef JUZVANEC_H
+#define JUZVANEC_H
+
+#include <stddef.h>
+#include <stdint.h>
+
+#ifdef __cplusplus
+extern "C" {
+#endif
+
+/* Limits. */
+#define JUZVANEC_MOST_DOMAINS 8u
+#define JUZVANEC_MOST_FRAMES 4096u
+#define JUZVANEC_MOST_VCPUS 16u
+#define JUZVANEC_MOST_TASKS 32u
+#define JUZVANEC_MOST_RELOAD 10000u       /* microseconds for each colour */
+#define JUZVANEC_MOST_TIME 1000000u       /* microseconds: a period, a deadline or a cost */
+#define JUZVANEC_CORES 4u                 /* cores 0 to 3 */
+#define JUZVANEC_LAST_PAGE 4095u          /* look, fault, release */
+#define JUZVANEC_LAST_INDEX 16777215u     /* layout: 2^24 - 1 */
+#define JUZVANEC_LAST_BLEACHED 268435455u /* bleaching: page 2^28 - 1 */
+#define JUZVANEC_PAGE_BYTES 4096u         /* a page or a frame */
+
+/*
+ * A board: 19 words of 32 bits. N is the number of colours of the cache, F that of frames. A grant or an
+ * active set has bit c for colour c. The sets of domains at or beyond the count are neither read nor
+ * changed.
+ */
+#define JUZVANEC_BOARD_WORDS 19u
+#define JUZVANEC_BOARD_COLOURS 0u /* N: 1, 2, 4, 8 or 16 */
+#define JUZVANEC_BOARD_FRAMES 1u  /* F: 1 to 4,096 */
+#define JUZVANEC_BOARD_DOMAINS 2u /* the domain count: 1 to 8 */
+#define JUZVANEC_BOARD_GRANTS 3u  /* eight grants, which share no colour */
+#define JUZVANEC_BOARD_ACTIVE 11u /* eight active sets, each inside its grant */
+
+/*
+ * The frame table: F words of 16 bits, word f for frame f. A frame's colour is f modulo N. A word that is
+ * neither JUZVANEC_FREE nor a page word of a domain 0 to 7 is held by nobody and not free.
+ */
+#define JUZVANEC_FREE 0u
+#define JUZVANEC_RESERVED 65535u /* for the hypervisor */
+/* the word of a frame that the domain (0 to 7) holds for the page (0 to 4,095) */
+#define JUZVANEC_PAGE_WORD(domain, page) ((uint16_t)(1u + 4096u * (domain) + (page)))
+/* the words of a move in a move list: page, old frame, new frame */
+#define JUZVANEC_MOVE_WORDS 3u
+
+/* A plan's rows, of words of 32 bits; earlier rows have higher priority. Times are microseconds. */
+#define JUZVANEC_VCPU_WORDS 4u
+#define JUZVANEC_VCPU_CORE 0u   /* 0 to 3 */
+#define JUZVANEC_VCPU_DOMAIN 1u /* below the domain count */
+#define JUZVANEC_VCPU_PERIOD 2u /* 1 to 1,000,000 */
+#define JUZVANEC_VCPU_BUDGET 3u /* 1 to the period */
+#define JUZVANEC_TASK_WORDS 20u
+#define JUZVANEC_TASK_VCPU 0u     /* a given VCPU row, ascending over the task rows */
+#define JUZVANEC_TASK_PERIOD 1u   /* 1 to 1,000,000 */
+#define JUZVANEC_TASK_DEADLINE 2u /* 1 to the period */
+#define JUZVANEC_TASK_SET 3u      /* colours, not empty, inside the grant of the VCPU's domain */
+#define JUZVANEC_TASK_COSTS 4u    /* sixteen costs, for 1 to 16 colours, none above the one before */
+
+/* Bytes that hold every text of juzvanec_admit. */
+#define JUZVANEC_TEXT_BYTES 1024u
+
+/* Refusals, in the order in which they are tested. */
+#define JUZVANEC_ANSWERED 0u
+#define JUZVANEC_REFUSED_INPUT 1u         /* a count over 8 domains, 16 VCPUs or 32 tasks, or another length */
+#define JUZVANEC_REFUSED_COLOURS 2u       /* N is not 1, 2, 4, 8 or 16, or the cache sizes give no such N */
+#define JUZVANEC_REFUSED_FRAMES 3u        /* F is 0 or above 4,096, or the table is not F words long */
+#define JUZVANEC_REFUSED_DOMAINS 4u       /* the domain count is 0 or above 8 */
+#define JUZVANEC_REFUSED_GRANT 5u         /* a grant is 0 or has a bit at N or above */
+#define JUZVANEC_REFUSED_SHARED_GRANT 6u  /* a grant shares a bit with another */
+#define JUZVANEC_REFUSED_ACTIVE 7u        /* an active set is 0 or has a bit outside its grant */
+#define JUZVANEC_REFUSED_CALLER 8u        /* the calling domain is not below the domain count */
+#define JUZVANEC_REFUSED_SET 9u           /* a set is 0, or outside the grant (recolour) or at N or above */
+#define JUZVANEC_REFUSED_PAGE 10u         /* a page or an index exceeds its limit */
+#define JUZVANEC_REFUSED_OUTSIDE_SET 11u  /* the page to bleach has a colour outside the set */
+#define JUZVANEC_REFUSED_NO_FRAME 12u     /* no free frame of an active colour, or too few to move to */
+#define JUZVANEC_REFUSED_MOVE_LIST 13u    /* the move list is shorter than three words for each move */
+#define JUZVANEC_REFUSED_UNMAPPED 14u     /* the page to release is unmapped */
+#define JUZVANEC_REFUSED_VCPU_WORDS 15u   /* reload over 10,000; VCPU words none, over 64 or no whole rows */
+#define JUZVANEC_REFUSED_TASK_WORDS 16u   /* task words none, over 640 or no whole rows; times too short */
+#define JUZVANEC_REFUSED_VCPU_ROW 17u     /* a VCPU row has a field outside its range */
+#define JUZVANEC_REFUSED_TASK_ROW 18u     /* a task row has a field or cost outside its rule */
+#define JUZVANEC_REFUSED_TASK_ORDER 19u   /* a task row names a lower VCPU than the row before */
+#define JUZVANEC_REFUSED_SHARED_COLOUR 20u /* a task row shares a colour with a row of another VCPU */
+#define JUZVANEC_REFUSED_VCPU_LATE 21u    /* a VCPU has no time up to its period */
+#define JUZVANEC_REFUSED_TASK_LATE 22u    /* a task has no time up to its deadline */
+
+/* The number N of colours of a cache of so many bytes in so many ways. Refusal 2. */
+uint32_t juzvanec_cache_colours(uint64_t bytes, uint64_t ways, uint32_t *colours, uint32_t *row);
+
+/* Coloured layout: the page of an index under a colour set of N colours. Refusals 2, 9, 10. */
+uint32_t juzvanec_layout(uint32_t colours, uint32_t set, uint32_t index, uint32_t *page, uint32_t *row);
+
+/* Bleaching: the index of a page under a colour set of N colours. Refusals 2, 9, 10, 11. */
+uint32_t juzvanec_bleach(uint32_t colours, uint32_t set, uint32_t page, uint32_t *index, uint32_t *row);
+
+/*
+ * The lowest frame that the domain holds for the page: *mapped is 1 and *frame its number, or both are 0
+ * where the page is unmapped. Refusals 2 to 8, 10.
+ */
+uint32_t juzvanec_look(const uint32_t *board, const uint16_t *table, size_t table_words, uint32_t domain,
+                       uint32_t page, uint32_t *mapped, uint32_t *frame, uint32_t *row);
+
+/*
+ * If the page is mapped, its lowest frame, and *is_new is 0. Else the lowest free frame with a colour in
+ * the domain's active set: its word becomes the page word, and *is_new is 1. Refusals 2 to 8, 10, 12.
+ */
+uint32_t juzvanec_fault(const uint32_t *board, uint16_t *table, size_t table_words, uint32_t domain,
+                        uint32_t page, uint32_t *is_new, uint32_t *frame, uint32_t *row);
+
+/* The lowest frame that the domain holds for the page becomes free. Refusals 2 to 8, 10, 14. */
+uint32_t juzvanec_release(const uint32_t *board, uint16_t *table, size_t table_words, uint32_t domain,
+                          uint32_t page, uint32_t *frame, uint32_t *row);
+
+/* The domain's active set. Refusals 2 to 8. */
+uint32_t juzvanec_colours(const uint32_t *board, const uint16_t *table, size_t table_words,
+                          uint32_t domain, uint32_t *set, uint32_t *row);
+
+/*
+ * The domain's frames outside the new set, ascending, go to the free frames inside it, ascending; the old
+ * frames become free. *count is the number of moves. The move list receives three words for each, in any
+ * order of moves, and its rest does not change. The board gets the set at JUZVANEC_BOARD_ACTIVE + domain.
+ * The pages' contents are the caller's to copy. Refusals 2 to 9, 12, 13.
+ */
+uint32_t juzvanec_recolour(uint32_t *board, uint16_t *table, size_t table_words, uint32_t domain,
+                           uint32_t set, uint16_t *moves, size_t move_words, uint32_t *count,
+                           uint32_t *row);
+
+/*
+ * The part of a VCPU in the caller's task list, of any words: it starts at word *start and has *length
+ * words, from the VCPU's first row up to the next row of another. Without such a row *length is 0 and
+ * *start is behind the last whole row. Refuses nothing.
+ */
+void juzvanec_part(const uint32_t *tasks, size_t task_words, uint32_t vcpu, size_t *start,
+                   size_t *length);
+
+/*
+ * Admits a plan on the board, without a frame table: writes the times of the VCPUs and then of the tasks,
+ * in row order, to the front of the list of times, whose rest does not change. Reload is microseconds for
+ * each colour. Refusals 2 to 7, 15 to 22.
+ */
+uint32_t juzvanec_admit_plan(const uint32_t *board, uint32_t reload, const uint32_t *vcpus,
+                             size_t vcpu_words, const uint32_t *tasks, size_t task_words,
+                             uint32_t *times, size_t times_words, uint32_t *row);
+
+/*
+ * The program `admit`: reads the plan in the input, as little-endian words of 32 bits, and writes what the
+ * program prints to the text of JUZVANEC_TEXT_BYTES bytes. *length is the text's length in bytes, on a
+ * refusal too, and the bytes past it do not change; *words is how many words the plan took, 0 where the
+ * refusal is 1. Refusals 1 to 7, 15 to 22.
+ */
+uint32_t juzvanec_admit(const uint8_t *input, size_t input_bytes, uint8_t *text, uint32_t *length,
+                        uint32_t *words, uint32_t *row);
+
+#ifdef __cplusplus
+}
+#endif
+
+#endif

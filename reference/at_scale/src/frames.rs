@@ -1,0 +1,231 @@
+//! Scripts of the five frame calls on sound and damaged boards and on all kinds of table content. After
+//! each call the reply, the table, the board, the moves and the rest of the move list are compared.
+
+use reference::boards::{accepted, any_domain, any_page, any_set, empty_table, part_of, spoil};
+use reference::frames::{word, Answer, Board, Call, State, FREE, PAGES, RESERVED};
+use reference::random::Random;
+use reference::reply::Reply;
+
+use crate::interface::{self, Raw, Words};
+use crate::lent::Lent;
+use crate::tally::{unlike, Tally};
+
+const GUARD: u16 = 0x5AA5;
+
+pub fn words(board: &Board) -> Words {
+    let mut words = [0; 19];
+    words[..3].copy_from_slice(&[board.colours, board.frames, board.domains]);
+    words[3..11].copy_from_slice(&board.grants);
+    words[11..].copy_from_slice(&board.active);
+    words
+}
+
+fn expected(reply: Reply<Answer>) -> Raw {
+    let (number, row, values) = match reply {
+        Reply::Refused { number, row } => (number, row, [0, 0]),
+        Reply::Answer(answer) => (
+            0,
+            0,
+            match answer {
+                Answer::Mapped(frame) | Answer::New(frame) => [1, frame as u32],
+                Answer::Unmapped => [0, 0],
+                Answer::Old(frame) => [0, frame as u32],
+                Answer::Freed(frame) => [frame as u32, 0],
+                Answer::Active(set) => [set, 0],
+                Answer::Moved(count) => [count as u32, 0],
+            },
+        ),
+    };
+    Raw {
+        number,
+        row,
+        values,
+    }
+}
+
+/// The triples in ascending order, since theirs is left open, and the rest.
+fn sorted(moves: &[u16], count: usize) -> (Vec<&[u16]>, &[u16]) {
+    let (triples, rest) = moves.split_at((3 * count).min(moves.len()));
+    let mut triples: Vec<&[u16]> = triples.chunks(3).collect();
+    triples.sort();
+    (triples, rest)
+}
+
+fn kind(call: &Call) -> &'static str {
+    match call {
+        Call::Look { .. } => "look",
+        Call::Fault { .. } => "fault",
+        Call::Release { .. } => "release",
+        Call::Colours { .. } => "colours",
+        Call::Recolour { .. } => "recolour",
+    }
+}
+
+/// The call through the interface.
+fn run(call: &Call, board: &mut Words, table: &mut [u16], moves: &mut [u16]) -> Raw {
+    match *call {
+        Call::Look { domain, page } => interface::look(board, table, domain, page),
+        Call::Fault { domain, page } => interface::fault(board, table, domain, page),
+        Call::Release { domain, page } => interface::release(board, table, domain, page),
+        Call::Colours { domain } => interface::colours(board, table, domain),
+        Call::Recolour { domain, set, .. } => interface::recolour(board, table, domain, set, moves),
+    }
+}
+
+/// Runs the call on both sides and compares all that either leaves.
+fn compare(state: &mut State, call: &Call, tally: &mut Tally) {
+    let before = state.clone();
+    let mut board = words(&state.board);
+    let mut table = Lent::new(&state.table, GUARD);
+    let list: Vec<u16> = (0..call.room())
+        .map(|place| place as u16 ^ 0xC3C3)
+        .collect();
+    let mut moves = Lent::new(&list, GUARD);
+    let found = run(call, &mut board, table.list_mut(), moves.list_mut());
+    let mut list = list;
+    let model = expected(state.call(call, &mut list));
+    let count = match call {
+        Call::Recolour { .. } => model.values[0] as usize,
+        _ => 0,
+    };
+    let outside = moves.difference("moves", moves.list());
+    let differences = [
+        unlike("reply", found, model),
+        unlike("board", board, words(&state.board)),
+        table.difference("table", &state.table),
+        outside,
+        unlike("moves", sorted(moves.list(), count), sorted(&list, count)),
+    ];
+    let differences = differences.into_iter().flatten();
+    tally.count(kind(call), model.number, &(before, call), differences);
+}
+
+/// A number of frames, seldom a large one.
+fn any_frames(random: &mut Random, n: u64) -> u32 {
+    let frames = match random.below(400) {
+        0 => 1000 + random.below(3097),
+        1 => random.pick(&[4095, 4096]),
+        2..=60 => 1 + random.below(n),
+        61..=120 => 41 + random.below(120),
+        _ => 1 + random.below(40),
+    };
+    frames as u32
+}
+
+fn any_board(random: &mut Random) -> Board {
+    let n = random.pick(&[1, 2, 4, 8, 8, 16, 16]);
+    let domains = 1 + random.below(n.min(8)) as u32;
+    let frames = any_frames(random, n);
+    accepted(random, n as u32, frames, domains)
+}
+
+/// Puts faults of 2 to 7 into the board, one or several.
+fn damage(random: &mut Random, board: &mut Board) {
+    for _ in 0..1 + random.below(2) {
+        let any = random.any_size() as u32;
+        let domains = board.domains.clamp(1, 8);
+        let row = random.below(domains.into()) as u32;
+        match random.below(8) {
+            0 => board.colours = random.pick(&[0, 3, 12, 17, 32, 1 << 16, u32::MAX, any]),
+            1 => board.frames = random.pick(&[0, 4097, board.frames.wrapping_add(1), any]),
+            2 => board.domains = random.pick(&[0, 9, 16, 256, 1 << 31, any]),
+            3 if row + 1 < domains => spoil_6(random, board, domains, row),
+            4 => board.grants[row as usize] = random.pick(&[0, any, 1 << 16, u32::MAX]),
+            5 => board.active[row as usize] = random.pick(&[0, any, 1 << 31]),
+            _ if (1..=16).contains(&board.colours) => {
+                let number = random.pick(&[5, 7]);
+                if board.grants[row as usize] != u32::MAX {
+                    spoil(random, board, number, row);
+                }
+            }
+            _ => {}
+        }
+    }
+}
+
+fn spoil_6(random: &mut Random, board: &mut Board, domains: u32, row: u32) {
+    let later = row + 1 + random.below((domains - 1 - row).into()) as u32;
+    board.grants[later as usize] |= part_of(random, board.grants[row as usize]);
+}
+
+/// A word that is seldom free: of the given pages, so that some stand twice and in frames of any colour; of
+/// domains at or beyond the count; at the edges between two domains; and of nobody.
+fn any_word(random: &mut Random, domains: u32, pages: &[u32]) -> u16 {
+    let page = random.pick(pages);
+    let any = match random.below(14) {
+        0..=7 => word(random.below(domains.clamp(1, 8).into()) as u32, page),
+        8 => word(random.below(8) as u32, page),
+        9 => u64::from(PAGES) * random.below(9) + random.below(2),
+        10 => random.pick(&[32_768, 32_769, 65_534]),
+        11 => random.below(65_536),
+        _ => RESERVED.into(),
+    };
+    any as u16
+}
+
+/// Empty tables, and tables of any words with few or many free frames.
+fn any_table(random: &mut Random, board: &Board, pages: &[u32]) -> Vec<u16> {
+    if random.below(3) == 0 {
+        return empty_table(random, board.frames);
+    }
+    let free = random.pick(&[2, 15, 30, 50, 70, 90]);
+    (0..board.frames)
+        .map(|_| match random.below(100) < free {
+            true => FREE,
+            false => any_word(random, board.domains, pages),
+        })
+        .collect()
+}
+
+/// A recolouring with a move list that is just long enough, too short or too long.
+fn any_recolour(random: &mut Random, state: &State, domain: u32) -> Call {
+    let grant = *state.board.grants.get(domain as usize).unwrap_or(&0xFFFF);
+    let set = any_set(random, grant);
+    let room = 3 * state.table.len();
+    let mut trial = state.clone();
+    let call = Call::Recolour { domain, set, room };
+    let room = match trial.call(&call, &mut vec![0; room]) {
+        Reply::Answer(Answer::Moved(count)) => {
+            let exact = 3 * count;
+            let short = exact.saturating_sub(1 + random.below(4) as usize);
+            let long = exact + random.below(12) as usize;
+            random.pick(&[exact, exact, exact, short, short, long, room, 0])
+        }
+        _ => random.pick(&[0, 3, 12, room]),
+    };
+    Call::Recolour { domain, set, room }
+}
+
+fn any_call(random: &mut Random, state: &State, pages: &[u32]) -> Call {
+    let domain = any_domain(random, state.board.domains);
+    let page = any_page(random, pages);
+    match random.below(16) {
+        0..=2 => Call::Look { domain, page },
+        3..=8 => Call::Fault { domain, page },
+        9..=11 => Call::Release { domain, page },
+        12 => Call::Colours { domain },
+        _ => any_recolour(random, state, domain),
+    }
+}
+
+/// A board, a table and some calls on them; a damaged board or a table of another length refuses all.
+pub fn script(random: &mut Random, tally: &mut Tally) {
+    let mut board = any_board(random);
+    let mut pages = vec![0, PAGES - 1];
+    pages.extend((0..2 + random.below(9)).map(|_| random.below(PAGES.into()) as u32));
+    let mut table = any_table(random, &board, &pages);
+    let mut calls = 20 + random.below(41);
+    if random.below(3) == 0 {
+        calls = 8;
+        match random.below(5) {
+            0 => table.truncate(random.below(table.len() as u64) as usize),
+            1 => table.extend([FREE; 3]),
+            _ => damage(random, &mut board),
+        }
+    }
+    let mut state = State { board, table };
+    for _ in 0..calls {
+        let call = any_call(random, &state, &pages);
+        compare(&mut state, &call, tally);
+    }
+}

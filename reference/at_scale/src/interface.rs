@@ -1,0 +1,197 @@
+//! The calls of the C interface, and all unsafe code of the comparison. Every number that comes back is
+//! set to rubbish before, so that one left unwritten shows.
+
+use juzvanec::raw;
+
+const RUBBISH: u32 = 0xA5A5_5A5A;
+
+/// The number and row of a reply, and the other numbers in the order of the header.
+#[derive(Clone, Copy, Debug, PartialEq, Eq)]
+pub struct Raw {
+    pub number: u32,
+    pub row: u32,
+    pub values: [u32; 2],
+}
+
+/// The reply with only so many values that the function has.
+fn raw(number: u32, row: u32, values: &[u32]) -> Raw {
+    let mut all = [0; 2];
+    all[..values.len()].copy_from_slice(values);
+    Raw {
+        number,
+        row,
+        values: all,
+    }
+}
+
+pub fn cache_colours(bytes: u64, ways: u64) -> Raw {
+    let [mut colours, mut row] = [RUBBISH; 2];
+    // SAFETY: two words of this function's own are lent.
+    let number = unsafe { raw::juzvanec_cache_colours(bytes, ways, &mut colours, &mut row) };
+    raw(number, row, &[colours])
+}
+
+pub fn layout(colours: u32, set: u32, index: u32) -> Raw {
+    let [mut page, mut row] = [RUBBISH; 2];
+    // SAFETY: two words of this function's own are lent.
+    let number = unsafe { raw::juzvanec_layout(colours, set, index, &mut page, &mut row) };
+    raw(number, row, &[page])
+}
+
+pub fn bleach(colours: u32, set: u32, page: u32) -> Raw {
+    let [mut index, mut row] = [RUBBISH; 2];
+    // SAFETY: two words of this function's own are lent.
+    let number = unsafe { raw::juzvanec_bleach(colours, set, page, &mut index, &mut row) };
+    raw(number, row, &[index])
+}
+
+/// A board of 19 words, which the callers below rely on.
+pub type Words = [u32; 19];
+
+pub fn look(board: &Words, table: &[u16], domain: u32, page: u32) -> Raw {
+    let [mut mapped, mut frame, mut row] = [RUBBISH; 3];
+    // SAFETY: board and table are valid for their lengths; three words of this function's own are lent.
+    let number = unsafe {
+        raw::juzvanec_look(
+            board.as_ptr(),
+            table.as_ptr(),
+            table.len(),
+            domain,
+            page,
+            &mut mapped,
+            &mut frame,
+            &mut row,
+        )
+    };
+    raw(number, row, &[mapped, frame])
+}
+
+pub fn fault(board: &Words, table: &mut [u16], domain: u32, page: u32) -> Raw {
+    let [mut is_new, mut frame, mut row] = [RUBBISH; 3];
+    // SAFETY: board and table are valid for their lengths; three words of this function's own are lent.
+    let number = unsafe {
+        raw::juzvanec_fault(
+            board.as_ptr(),
+            table.as_mut_ptr(),
+            table.len(),
+            domain,
+            page,
+            &mut is_new,
+            &mut frame,
+            &mut row,
+        )
+    };
+    raw(number, row, &[is_new, frame])
+}
+
+pub fn release(board: &Words, table: &mut [u16], domain: u32, page: u32) -> Raw {
+    let [mut frame, mut row] = [RUBBISH; 2];
+    // SAFETY: board and table are valid for their lengths; two words of this function's own are lent.
+    let number = unsafe {
+        raw::juzvanec_release(
+            board.as_ptr(),
+            table.as_mut_ptr(),
+            table.len(),
+            domain,
+            page,
+            &mut frame,
+            &mut row,
+        )
+    };
+    raw(number, row, &[frame])
+}
+
+pub fn colours(board: &Words, table: &[u16], domain: u32) -> Raw {
+    let [mut set, mut row] = [RUBBISH; 2];
+    // SAFETY: board and table are valid for their lengths; two words of this function's own are lent.
+    let number = unsafe {
+        raw::juzvanec_colours(
+            board.as_ptr(),
+            table.as_ptr(),
+            table.len(),
+            domain,
+            &mut set,
+            &mut row,
+        )
+    };
+    raw(number, row, &[set])
+}
+
+pub fn recolour(
+    board: &mut Words,
+    table: &mut [u16],
+    domain: u32,
+    set: u32,
+    moves: &mut [u16],
+) -> Raw {
+    let [mut count, mut row] = [RUBBISH; 2];
+    // SAFETY: board, table and move list are valid for their lengths and lie apart; two words of this
+    // function's own are lent.
+    let number = unsafe {
+        raw::juzvanec_recolour(
+            board.as_mut_ptr(),
+            table.as_mut_ptr(),
+            table.len(),
+            domain,
+            set,
+            moves.as_mut_ptr(),
+            moves.len(),
+            &mut count,
+            &mut row,
+        )
+    };
+    raw(number, row, &[count])
+}
+
+/// The start and length of the part.
+pub fn part(tasks: &[u32], vcpu: u32) -> (usize, usize) {
+    let [mut start, mut length] = [RUBBISH as usize; 2];
+    // SAFETY: the list is valid for its length; two words of this function's own are lent.
+    unsafe { raw::juzvanec_part(tasks.as_ptr(), tasks.len(), vcpu, &mut start, &mut length) };
+    (start, length)
+}
+
+pub fn admit_plan(
+    board: &Words,
+    reload: u32,
+    vcpus: &[u32],
+    tasks: &[u32],
+    times: &mut [u32],
+) -> Raw {
+    let mut row = RUBBISH;
+    // SAFETY: board and lists are valid for their lengths, and the list of times lies apart; a word of
+    // this function's own is lent.
+    let number = unsafe {
+        raw::juzvanec_admit_plan(
+            board.as_ptr(),
+            reload,
+            vcpus.as_ptr(),
+            vcpus.len(),
+            tasks.as_ptr(),
+            tasks.len(),
+            times.as_mut_ptr(),
+            times.len(),
+            &mut row,
+        )
+    };
+    raw(number, row, &[])
+}
+
+/// The values are the text's length and the words that the plan took.
+pub fn admit(input: &[u8], text: &mut [u8]) -> Raw {
+    assert_eq!(text.len(), juzvanec::TEXT_BYTES);
+    let [mut length, mut words, mut row] = [RUBBISH; 3];
+    // SAFETY: the input is valid for its length and the text has 1,024 bytes, apart from it; three words
+    // of this function's own are lent.
+    let number = unsafe {
+        raw::juzvanec_admit(
+            input.as_ptr(),
+            input.len(),
+            text.as_mut_ptr(),
+            &mut length,
+            &mut words,
+            &mut row,
+        )
+    };
+    raw(number, row, &[length, words])
+}

@@ -1,0 +1,94 @@
+//! The comparison at scale: the linked library, through its C interface, against the separate tool's own
+//! model, on random cases from a seed. The last line is `N cases, D differences`; it fails where D is not
+//! 0, or where a kind of reply never occurs.
+
+mod frames;
+mod inputs;
+mod interface;
+mod lent;
+mod pages;
+mod plans;
+mod tally;
+
+use std::process::ExitCode;
+use std::time::{Duration, Instant};
+
+use reference::random::Random;
+use tally::Tally;
+
+const USAGE: &str = "usage: at_scale [SEED] [CASES | SECONDSs]
+  at_scale 7 500000   stops after 500,000 cases or a few more
+  at_scale 7 20s      stops after 20 seconds";
+
+const SEED: u64 = 2003;
+const CASES: u64 = 30_000_000;
+
+/// How long to go on.
+enum Bound {
+    Cases(u64),
+    Time(Duration),
+}
+
+impl Bound {
+    fn read(text: &str) -> Option<Self> {
+        match text.strip_suffix('s') {
+            None => text.parse().ok().map(Bound::Cases),
+            Some(seconds) => {
+                let seconds = seconds.parse().ok()?;
+                Some(Bound::Time(Duration::from_secs(seconds)))
+            }
+        }
+    }
+
+    fn reached(&self, tally: &Tally, start: Instant) -> bool {
+        match self {
+            Bound::Cases(cases) => tally.cases >= *cases,
+            Bound::Time(time) => start.elapsed() >= *time,
+        }
+    }
+}
+
+fn main() -> ExitCode {
+    let words: Vec<String> = std::env::args().skip(1).collect();
+    let words: Vec<&str> = words.iter().map(String::as_str).collect();
+    let given = match words.as_slice() {
+        [] => Some((SEED, Bound::Cases(CASES))),
+        [seed] => seed.parse().ok().map(|seed| (seed, Bound::Cases(CASES))),
+        [seed, bound] => seed.parse().ok().zip(Bound::read(bound)),
+        _ => None,
+    };
+    let Some((seed, bound)) = given else {
+        eprintln!("{USAGE}");
+        return ExitCode::from(2);
+    };
+    println!("seed {seed}");
+    match compare(seed, &bound).report() {
+        true => ExitCode::SUCCESS,
+        false => ExitCode::FAILURE,
+    }
+}
+
+/// Rounds of all kinds until the bound is reached.
+fn compare(seed: u64, bound: &Bound) -> Tally {
+    let mut random = Random::new(seed);
+    let mut tally = Tally::default();
+    let start = Instant::now();
+    while !bound.reached(&tally, start) {
+        for _ in 0..10 {
+            pages::cache_sizes(&mut random, &mut tally);
+            pages::layout(&mut random, &mut tally);
+            pages::bleaching(&mut random, &mut tally);
+        }
+        for _ in 0..3 {
+            frames::script(&mut random, &mut tally);
+        }
+        plans::parts(&mut random, &mut tally);
+        for _ in 0..10 {
+            plans::family(&mut random, &mut tally);
+        }
+        for _ in 0..5 {
+            inputs::family(&mut random, &mut tally);
+        }
+    }
+    tally
+}

@@ -1,0 +1,94 @@
+//! What was compared: cases by kind and by refusal number, and the differences, of which the first few
+//! are printed.
+
+use std::collections::BTreeMap;
+use std::fmt::Debug;
+
+const SHOWN: u64 = 5;
+
+/// The functions of the interface, with the refusals that each can give.
+pub const KINDS: [(&str, &[u32]); 11] = [
+    ("cache sizes", &[2]),
+    ("layout", &[2, 9, 10]),
+    ("bleaching", &[2, 9, 10, 11]),
+    ("look", &[2, 3, 4, 5, 6, 7, 8, 10]),
+    ("fault", &[2, 3, 4, 5, 6, 7, 8, 10, 12]),
+    ("release", &[2, 3, 4, 5, 6, 7, 8, 10, 14]),
+    ("colours", &[2, 3, 4, 5, 6, 7, 8]),
+    ("recolour", &[2, 3, 4, 5, 6, 7, 8, 9, 12, 13]),
+    ("part", &[]),
+    ("plan", &[2, 3, 4, 5, 6, 7, 15, 16, 17, 18, 19, 20, 21, 22]),
+    (
+        // a program's board has its grants active, so that 7 never shows
+        "admit",
+        &[1, 2, 3, 4, 5, 6, 15, 16, 17, 18, 19, 20, 21, 22],
+    ),
+];
+
+#[derive(Default)]
+pub struct Tally {
+    pub cases: u64,
+    pub differences: u64,
+    seen: BTreeMap<(&'static str, u32), u64>,
+}
+
+impl Tally {
+    /// Counts a case with the number that the model gives, and the differences found in it.
+    pub fn count(
+        &mut self,
+        kind: &'static str,
+        number: u32,
+        case: &impl Debug,
+        differences: impl IntoIterator<Item = String>,
+    ) {
+        self.cases += 1;
+        *self.seen.entry((kind, number)).or_default() += 1;
+        let found: Vec<String> = differences.into_iter().collect();
+        if found.is_empty() {
+            return;
+        }
+        self.differences += 1;
+        if self.differences <= SHOWN {
+            println!("DIFFERENT {kind}: {case:?}");
+            for text in found {
+                println!("  {text}");
+            }
+        }
+    }
+
+    fn of(&self, kind: &str, number: u32) -> u64 {
+        let all = self.seen.iter();
+        all.filter(|((k, n), _)| *k == kind && *n == number)
+            .map(|(_, count)| count)
+            .sum()
+    }
+
+    /// Prints the counts; the answer is whether nothing differs and everything occurs.
+    pub fn report(&self) -> bool {
+        let mut missing = 0;
+        for (kind, numbers) in KINDS {
+            let mut line = format!("{kind}: answered {}", self.of(kind, 0));
+            for number in numbers {
+                let count = self.of(kind, *number);
+                line += &format!(", refused {number} {count}");
+                missing += u32::from(count == 0);
+            }
+            missing += u32::from(self.of(kind, 0) == 0);
+            println!("{line}");
+        }
+        for number in 1..=22 {
+            let count: u64 = KINDS.iter().map(|(kind, _)| self.of(kind, number)).sum();
+            println!("refusal {number}: {count} cases");
+        }
+        if missing > 0 {
+            println!("{missing} kinds of reply never occur");
+        }
+        println!("{} cases, {} differences", self.cases, self.differences);
+        missing == 0 && self.differences == 0
+    }
+}
+
+/// The difference of two replies, if they differ.
+pub fn unlike<T: Debug + PartialEq>(what: &str, found: T, expected: T) -> Option<String> {
+    (found != expected).then(|| format!("{what}: {found:?}\n  expected {expected:?}"))
+}

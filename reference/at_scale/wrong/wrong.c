@@ -1,0 +1,176 @@
+/*
+ * A library that is wrong in one way, named by the environment variable JUZVANEC_WRONG, so that the
+ * comparison at scale can be seen to fail. `check` renames the functions of the right library to right_*
+ * and links this in front of them.
+ */
+#include <stdlib.h>
+#include <string.h>
+
+#include "juzvanec.h"
+
+#define RIGHT(type, name) extern type right_##name
+
+RIGHT(uint32_t, cache_colours)(uint64_t, uint64_t, uint32_t *, uint32_t *);
+RIGHT(uint32_t, layout)(uint32_t, uint32_t, uint32_t, uint32_t *, uint32_t *);
+RIGHT(uint32_t, bleach)(uint32_t, uint32_t, uint32_t, uint32_t *, uint32_t *);
+RIGHT(uint32_t, look)(const uint32_t *, const uint16_t *, size_t, uint32_t, uint32_t, uint32_t *, uint32_t *,
+                      uint32_t *);
+RIGHT(uint32_t, fault)(const uint32_t *, uint16_t *, size_t, uint32_t, uint32_t, uint32_t *, uint32_t *,
+                       uint32_t *);
+RIGHT(uint32_t, release)(const uint32_t *, uint16_t *, size_t, uint32_t, uint32_t, uint32_t *, uint32_t *);
+RIGHT(uint32_t, colours)(const uint32_t *, const uint16_t *, size_t, uint32_t, uint32_t *, uint32_t *);
+RIGHT(uint32_t, recolour)(uint32_t *, uint16_t *, size_t, uint32_t, uint32_t, uint16_t *, size_t, uint32_t *,
+                          uint32_t *);
+RIGHT(void, part)(const uint32_t *, size_t, uint32_t, size_t *, size_t *);
+RIGHT(uint32_t, admit_plan)(const uint32_t *, uint32_t, const uint32_t *, size_t, const uint32_t *, size_t,
+                            uint32_t *, size_t, uint32_t *);
+RIGHT(uint32_t, admit)(const uint8_t *, size_t, uint8_t *, uint32_t *, uint32_t *, uint32_t *);
+
+static int wrong(const char *way)
+{
+    static const char *chosen;
+
+    if (!chosen)
+        chosen = getenv("JUZVANEC_WRONG");
+    return chosen && strcmp(chosen, way) == 0;
+}
+
+uint32_t juzvanec_cache_colours(uint64_t bytes, uint64_t ways, uint32_t *colours, uint32_t *row)
+{
+    uint32_t number = right_cache_colours(bytes, ways, colours, row);
+
+    if (number && wrong("cache-row"))
+        *row = 1;
+    return number;
+}
+
+uint32_t juzvanec_layout(uint32_t colours, uint32_t set, uint32_t index, uint32_t *page, uint32_t *row)
+{
+    uint32_t number = right_layout(colours, set, index, page, row);
+
+    if (!number && index == JUZVANEC_LAST_INDEX && wrong("layout-last"))
+        ++*page;
+    return number;
+}
+
+uint32_t juzvanec_bleach(uint32_t colours, uint32_t set, uint32_t page, uint32_t *index, uint32_t *row)
+{
+    uint32_t number = right_bleach(colours, set, page, index, row);
+
+    if (number == JUZVANEC_REFUSED_OUTSIDE_SET && wrong("bleach-index-kept"))
+        *index = page;
+    return number;
+}
+
+uint32_t juzvanec_look(const uint32_t *board, const uint16_t *table, size_t table_words, uint32_t domain,
+                       uint32_t page, uint32_t *mapped, uint32_t *frame, uint32_t *row)
+{
+    uint32_t number = right_look(board, table, table_words, domain, page, mapped, frame, row);
+    uint32_t above;
+
+    if (!number && *mapped && wrong("look-highest"))
+        for (above = *frame; above < table_words; above++)
+            if (table[above] == JUZVANEC_PAGE_WORD(domain, page))
+                *frame = above;
+    return number;
+}
+
+uint32_t juzvanec_fault(const uint32_t *board, uint16_t *table, size_t table_words, uint32_t domain,
+                        uint32_t page, uint32_t *is_new, uint32_t *frame, uint32_t *row)
+{
+    uint32_t number = right_fault(board, table, table_words, domain, page, is_new, frame, row);
+
+    if (*is_new && wrong("fault-table"))
+        table[*frame] = JUZVANEC_FREE;
+    if (*is_new && wrong("fault-old"))
+        *is_new = 0;
+    if (number == JUZVANEC_REFUSED_NO_FRAME && wrong("fault-number"))
+        return JUZVANEC_REFUSED_MOVE_LIST;
+    return number;
+}
+
+uint32_t juzvanec_release(const uint32_t *board, uint16_t *table, size_t table_words, uint32_t domain,
+                          uint32_t page, uint32_t *frame, uint32_t *row)
+{
+    uint32_t number = right_release(board, table, table_words, domain, page, frame, row);
+
+    if (!number && wrong("release-reserves"))
+        table[*frame] = JUZVANEC_RESERVED;
+    return number;
+}
+
+uint32_t juzvanec_colours(const uint32_t *board, const uint16_t *table, size_t table_words,
+                          uint32_t domain, uint32_t *set, uint32_t *row)
+{
+    uint32_t number = right_colours(board, table, table_words, domain, set, row);
+
+    if (!number && wrong("colours-grant"))
+        *set = board[JUZVANEC_BOARD_GRANTS + domain];
+    return number;
+}
+
+uint32_t juzvanec_recolour(uint32_t *board, uint16_t *table, size_t table_words, uint32_t domain,
+                           uint32_t set, uint16_t *moves, size_t move_words, uint32_t *count,
+                           uint32_t *row)
+{
+    uint32_t number =
+        right_recolour(board, table, table_words, domain, set, moves, move_words, count, row);
+
+    if (number)
+        return number;
+    if (wrong("recolour-board"))
+        board[JUZVANEC_BOARD_ACTIVE + domain] = board[JUZVANEC_BOARD_GRANTS + domain];
+    if (wrong("recolour-count"))
+        ++*count;
+    if (3 * *count < move_words && wrong("recolour-rest"))
+        moves[3 * *count] = 0;
+    if (*count > 1 && wrong("recolour-targets")) {
+        uint16_t target = moves[2];
+
+        moves[2] = moves[5];
+        moves[5] = target;
+    }
+    if (wrong("recolour-beyond"))
+        moves[move_words] = 0;
+    return number;
+}
+
+void juzvanec_part(const uint32_t *tasks, size_t task_words, uint32_t vcpu, size_t *start, size_t *length)
+{
+    right_part(tasks, task_words, vcpu, start, length);
+    if (*length == 0 && wrong("part-start"))
+        *start = task_words;
+}
+
+uint32_t juzvanec_admit_plan(const uint32_t *board, uint32_t reload, const uint32_t *vcpus,
+                             size_t vcpu_words, const uint32_t *tasks, size_t task_words,
+                             uint32_t *times, size_t times_words, uint32_t *row)
+{
+    uint32_t number = right_admit_plan(board, reload, vcpus, vcpu_words, tasks, task_words, times,
+                                       times_words, row);
+    size_t rows = vcpu_words / JUZVANEC_VCPU_WORDS + task_words / JUZVANEC_TASK_WORDS;
+
+    if (!number && wrong("plan-time"))
+        times[rows - 1]++;
+    if (!number && rows < times_words && wrong("plan-rest"))
+        times[rows] = 0;
+    if (number && times_words > 0 && wrong("plan-refused"))
+        times[0] = 0;
+    if (number == JUZVANEC_REFUSED_TASK_LATE && wrong("plan-row"))
+        *row = 0;
+    return number;
+}
+
+uint32_t juzvanec_admit(const uint8_t *input, size_t input_bytes, uint8_t *text, uint32_t *length,
+                        uint32_t *words, uint32_t *row)
+{
+    uint32_t number = right_admit(input, input_bytes, text, length, words, row);
+
+    if (!number && wrong("admit-text"))
+        text[*length - 1] = ' ';
+    if (number > JUZVANEC_REFUSED_INPUT && wrong("admit-words"))
+        *words = 0;
+    if (wrong("admit-rest"))
+        text[*length] = 0;
+    return number;
+}
