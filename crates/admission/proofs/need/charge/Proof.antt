@@ -1,49 +1,42 @@
 -- `admission::need::charge` meets its contract: 10,000 times 16 colours and a cost of 1,000,000 fit.
 use Prim.Native.Nat.{_*_, _≤_}
-use native.Mathlib.Nat.{mul-le-mul}
+use native.Mathlib.Nat.{le-trans, mul-le-mul}
 use native.Mathlib.Omega.{arith}
+use lib.Bits.{bitAnd}
+use lib.Count.{ones}
+use Rattle.plan.specs.Rows.{colours-shared}
 use Rattle.times.specs.Times.{charge}
-use Rattle.times.proofs.Rows.{shared-le}
+use Rattle.times.proofs.Rows.{ones-and}
 use borrow.Author.Needs.{needs}
 use Rattle.admission.proofs.need.charge.Statement.{statement}
 use Rattle.admission.proofs.need.charge.Tie as tie
 
-cost-requires : tie.Need-cost-requires
-cost-requires c κs = search needs
+task-at-requires : tie.Need-task-at-requires
+task-at-requires c κs = search needs
 
-cast-result : tie.Need-cast-result
-cast-result c = search needs
+cost-at-requires : tie.Need-cost-at-requires
+cost-at-requires c κs = search needs
 
-shared-requires : tie.Need-shared-requires
-shared-requires c κs = search needs
-
-cast-result-2 : tie.Need-cast-result-2
-cast-result-2 c = search needs
-
-reload-le : (c : tie.After-shared) → c .before .before .before .args .reload * c .shared .result ≤ 160000
+reload-le : (c : tie.After-cost-at) → c .before .before .before .args .reload * ones (bitAnd (c .before .task-at .result) (c .before .before .before .args .own)) ≤ 160000
 reload-le c =
     let s = c .before .before .before in
-    let few : c .shared .result ≤ 16 = rw (c .shared .ensures) (shared-le (s .args .part .now) (s .args .i) (s .args .j) (s .pre .1)) in
-    mul-le-mul (s .pre .0) few
+    let held : ones (c .before .task-at .result) ≤ 16 = rw (c .before .task-at .ensures) (s .pre .2 .colours-high) in
+    mul-le-mul (s .pre .0) (le-trans (ones-and (c .before .task-at .result) (s .args .own)) held)
 
 mul-result : tie.Need-mul-result
 mul-result c = omega (arith, reload-le c)
 
 add-result : tie.Need-add-result
-add-result c = omega (arith, reload-le c, c .before .cost .ensures, c .before .before .before .pre .1 .cost-high)
+add-result c = omega (arith, reload-le c, c .cost-at .ensures, c .before .before .before .pre .2 .cost-high)
+
+cast-result : tie.Need-cast-result
+cast-result c = omega (arith, reload-le c, c .cost-at .ensures, c .before .before .before .pre .2 .cost-high)
 
 returns : tie.Need-returns
-unfolding charge
-returns c = rw (c .before .cost .ensures, c .shared .ensures)
+unfolding charge colours-shared
+returns c = rw (c .cost-at .ensures, c .before .task-at .ensures, c .before .before .before .pre .1)
 
 pub charge-spec : {M : Type 1} → statement M
 charge-spec =
     tie.close
-    (tie.spec
-    cost-requires
-    cast-result
-    shared-requires
-    cast-result-2
-    mul-result
-    add-result
-    returns)
+    (tie.spec task-at-requires cost-at-requires mul-result add-result cast-result returns)
