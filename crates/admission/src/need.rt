@@ -2,7 +2,6 @@
 // the own cost, and for each earlier row the arrivals in t times the charge of one.
 ghost use mathlib.Core.Path.{_≡_};
 ghost use Prim.Native.Nat.{_≤_, _<_};
-ghost use Rattle.plan.specs.Rows.{colourSet};
 ghost use Rattle.times.specs.Need.{arrivals as arrivalsOf};
 ghost use Rattle.times.specs.Times.{charge as chargeOf, taskNeed, vcpuNeed};
 ghost use Rattle.times.specs.Valid.{TaskRow, TaskRows, VcpuRows};
@@ -18,25 +17,23 @@ fn arrivals(t: u32, period: u32) -> u64
     ((t + (period - 1)) / period) as u64
 }
 
-// What an arrival of task j charges task i, whose set is `own`: its cost, and the reload of each colour
-// that both hold.
-fn charge(reload: u32, part: &[u32], i: u32, own: u32, j: u32) -> u64
-    requires { ⌜ (reload ≤ 10000) × (own ≡ colourSet (now part) i) × TaskRow (now part) j ⌝ }
+// What an arrival of task j charges task i: its cost, and the reload of each colour that both hold.
+fn charge(reload: u32, part: &[u32], i: u32, j: u32) -> u64
+    requires { ⌜ (reload ≤ 10000) × TaskRow (now part) i × TaskRow (now part) j ⌝ }
     ensures { λ r. ⌜ r ≡ chargeOf reload (now (part .entry)) i j ⌝ }
 {
-    let set = task_at(part, j, 3);
-    (cost_at(part, j, set) + reload * u32::count_ones(set & own)) as u64
+    let shared = u32::count_ones(task_at(part, j, 3) & task_at(part, i, 3));
+    (cost_at(part, j) + reload * shared) as u64
 }
 
 pub(crate) fn task_need(reload: u32, part: &[u32], i: u32, t: u32) -> u64
     requires { ⌜ (reload ≤ 10000) × (t ≤ 1000000) × TaskRows (now part) i ⌝ }
     ensures { λ r. ⌜ r ≡ taskNeed reload (now (part .entry)) i t ⌝ }
 {
-    let own = task_at(part, i, 3);
-    let mut sum = cost_at(part, i, own) as u64;
+    let mut sum = cost_at(part, i) as u64;
     let mut j = 0;
     while j < i {
-        sum += arrivals(t, task_at(part, j, 1)) * charge(reload, part, i, own, j);
+        sum += arrivals(t, task_at(part, j, 1)) * charge(reload, part, i, j);
         j += 1;
     }
     sum

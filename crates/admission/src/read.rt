@@ -3,7 +3,7 @@
 ghost use mathlib.Core.Path.{_≡_};
 ghost use Prim.Native.Nat.{_+_, _*_, _<_};
 ghost use lib.ListN.{length};
-ghost use Rattle.plan.specs.Rows.{vcpuWord, taskWord, colourSet, cost as costOf};
+ghost use Rattle.plan.specs.Rows.{vcpuWord, taskWord, cost as costOf};
 ghost use Rattle.times.specs.Valid.{TaskRow};
 
 // Word k of a VCPU's row.
@@ -22,10 +22,11 @@ pub(crate) fn task_at(part: &[u32], row: u32, k: u32) -> u32
     part[20 * (row as usize) + k as usize]
 }
 
-// The cost of a task with the colours of its set.
-pub(crate) fn cost_at(part: &[u32], row: u32, set: u32) -> u32
-    requires { ⌜ TaskRow (now part) row × (set ≡ colourSet (now part) row) ⌝ }
+// The cost of a task with the colours that it holds.
+pub(crate) fn cost_at(part: &[u32], row: u32) -> u32
+    requires { ⌜ TaskRow (now part) row ⌝ }
     ensures { λ r. ⌜ r ≡ costOf (now (part .entry)) row ⌝ }
 {
-    task_at(part, row, 3 + u32::count_ones(set))
+    let k = u32::count_ones(task_at(part, row, 3));
+    task_at(part, row, 3 + k)
 }

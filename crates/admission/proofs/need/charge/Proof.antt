@@ -1,12 +1,13 @@
 -- `admission::need::charge` meets its contract: 10,000 times 16 colours and a cost of 1,000,000 fit.
 use Prim.Native.Nat.{_*_, _≤_}
-use native.Mathlib.Nat.{le-trans, mul-le-mul}
+use native.Mathlib.Nat.{mul-le-mul}
 use native.Mathlib.Omega.{arith}
+use mathlib.Core.Path.{_≡_}
 use lib.Bits.{bitAnd}
 use lib.Count.{ones}
 use Rattle.plan.specs.Rows.{colours-shared}
 use Rattle.times.specs.Times.{charge}
-use Rattle.times.proofs.Rows.{ones-and}
+use Rattle.times.proofs.Rows.{shared-le}
 use borrow.Author.Needs.{needs}
 use Rattle.admission.proofs.need.charge.Statement.{statement}
 use Rattle.admission.proofs.need.charge.Tie as tie
@@ -14,29 +15,43 @@ use Rattle.admission.proofs.need.charge.Tie as tie
 task-at-requires : tie.Need-task-at-requires
 task-at-requires c κs = search needs
 
+task-at-requires-2 : tie.Need-task-at-requires-2
+task-at-requires-2 c κs = search needs
+
 cost-at-requires : tie.Need-cost-at-requires
 cost-at-requires c κs = search needs
 
-reload-le : (c : tie.After-cost-at) → c .before .before .before .args .reload * ones (bitAnd (c .before .task-at .result) (c .before .before .before .args .own)) ≤ 160000
+shared-is : (c : tie.After-task-at2) → ones (bitAnd (c .before .task-at .result) (c .task-at2 .result)) ≡ colours-shared (c .before .before .before .args .part .now) (c .before .before .before .args .i) (c .before .before .before .args .j)
+unfolding colours-shared
+shared-is c = rw (c .before .task-at .ensures, c .task-at2 .ensures)
+
+reload-le : (c : tie.After-task-at2) → c .before .before .before .args .reload * ones (bitAnd (c .before .task-at .result) (c .task-at2 .result)) ≤ 160000
 reload-le c =
     let s = c .before .before .before in
-    let held : ones (c .before .task-at .result) ≤ 16 = rw (c .before .task-at .ensures) (s .pre .2 .colours-high) in
-    mul-le-mul (s .pre .0) (le-trans (ones-and (c .before .task-at .result) (s .args .own)) held)
+    let few : ones (bitAnd (c .before .task-at .result) (c .task-at2 .result)) ≤ 16 = rw (shared-is c) (shared-le (s .args .part .now) (s .args .i) (s .args .j) (s .pre .2)) in
+    mul-le-mul (s .pre .0) few
 
 mul-result : tie.Need-mul-result
-mul-result c = omega (arith, reload-le c)
+mul-result c = omega (arith, reload-le (c .before))
 
 add-result : tie.Need-add-result
-add-result c = omega (arith, reload-le c, c .cost-at .ensures, c .before .before .before .pre .2 .cost-high)
+add-result c = omega (arith, reload-le (c .before), c .cost-at .ensures, c .before .before .before .before .pre .2 .cost-high)
 
 cast-result : tie.Need-cast-result
-cast-result c = omega (arith, reload-le c, c .cost-at .ensures, c .before .before .before .pre .2 .cost-high)
+cast-result c = omega (arith, reload-le (c .before), c .cost-at .ensures, c .before .before .before .before .pre .2 .cost-high)
 
 returns : tie.Need-returns
-unfolding charge colours-shared
-returns c = rw (c .cost-at .ensures, c .before .task-at .ensures, c .before .before .before .pre .1)
+unfolding charge
+returns c = rw (c .cost-at .ensures, shared-is (c .before))
 
 pub charge-spec : {M : Type 1} → statement M
 charge-spec =
     tie.close
-    (tie.spec task-at-requires cost-at-requires mul-result add-result cast-result returns)
+    (tie.spec
+    task-at-requires
+    task-at-requires-2
+    cost-at-requires
+    mul-result
+    add-result
+    cast-result
+    returns)

@@ -13,19 +13,16 @@ use Rattle.admission.proofs.need.task_need.Statement.{statement}
 use Rattle.admission.proofs.need.task_need.Tie as tie
 
 abbrev Inv-loop : tie.InvT-loop
-Inv-loop reload part i t own sum₀ j₀ sum j = (j ≤ i) × (sum ≡ need (cost part i) (taskPeriod part) (charge reload part i) j t)
+Inv-loop reload part i t sum₀ j₀ sum j = (j ≤ i) × (sum ≡ need (cost part i) (taskPeriod part) (charge reload part i) j t)
 
 abbrev μ-loop : tie.MeasureT-loop
-μ-loop reload part i t own sum₀ j₀ sum j = i - j
+μ-loop reload part i t sum₀ j₀ sum j = i - j
 
 own-row : (c : tie.Start Inv-loop μ-loop) → TaskRow (c .args .part .now) (c .args .i)
 own-row c = c .pre .2 .row (c .args .i) (le-refl (c .args .i))
 
-task-at-requires : tie.Need-task-at-requires Inv-loop μ-loop
-task-at-requires c κs = omega (arith, own-row (c .before) .whole)
-
 cost-at-requires : tie.Need-cost-at-requires Inv-loop μ-loop
-cost-at-requires c κs = (own-row (c .before .before), c .task-at .ensures)
+cost-at-requires c κs = own-row (c .before)
 
 cast-sum : tie.Need-cast-sum Inv-loop μ-loop
 cast-sum c = omega (arith, c .cost-at .ok)
@@ -35,31 +32,32 @@ unfolding need
 loop-holds c = (omega arith, c .cost-at .ensures)
 
 -- the row that the loop has come to
-row : (c : tie.In-loop Inv-loop μ-loop) → TaskRow (c .before .before .before .before .before .args .part .now) (c .before .loop .j)
-row c = c .before .before .before .before .before .pre .2 .row (c .before .loop .j) (omega arith)
+row : (c : tie.In-loop Inv-loop μ-loop) → TaskRow (c .before .before .before .before .args .part .now) (c .before .loop .j)
+row c = c .before .before .before .before .pre .2 .row (c .before .loop .j) (omega arith)
 
-task-at-requires-2 : tie.Need-task-at-requires-2 Inv-loop μ-loop
-task-at-requires-2 c κs = omega (arith, row c .whole)
+task-at-requires : tie.Need-task-at-requires Inv-loop μ-loop
+task-at-requires c κs = omega (arith, row c .whole)
 
 arrivals-requires : tie.Need-arrivals-requires Inv-loop μ-loop
 arrivals-requires c κs =
     let r = row (c .before) in
-    (c .before .before .before .before .before .before .pre .1, rw (c .task-at2 .ensures) (r .period-low), rw (c .task-at2 .ensures) (r .period-high))
+    (c .before .before .before .before .before .pre .1, rw (c .task-at .ensures) (r .period-low), rw (c .task-at .ensures) (r .period-high))
 
 charge-requires : tie.Need-charge-requires Inv-loop μ-loop
 charge-requires c κs =
-    (c .before .before .before .before .before .before .before .pre .0, c .before .before .before .before .before .task-at .ensures, row (c .before .before))
+    let s = c .before .before .before .before .before .before in
+    (s .pre .0, own-row s, row (c .before .before))
 
 product-le : (c : tie.After-charge Inv-loop μ-loop) → c .before .arrivals .result * c .charge .result ≤ 1160000000000
 product-le c =
-    let s = c .before .before .before .before .before .before .before .before in
+    let s = c .before .before .before .before .before .before .before in
     let many : c .before .arrivals .result ≤ 1000000 = rw (c .before .arrivals .ensures) (le-trans (arrivals-le _ (s .args .t)) (s .pre .1)) in
     let dear : c .charge .result ≤ 1160000 = rw (c .charge .ensures) (charge-le (s .args .reload) (s .args .part .now) (s .args .i) _ (s .pre .0) (row (c .before .before .before))) in
     mul-le-mul many dear
 
 sum-le : (c : tie.After-charge Inv-loop μ-loop) → c .before .before .before .before .loop .sum ≤ 1000000 + c .before .before .before .before .loop .j * 1160000000000
 sum-le c =
-    let s = c .before .before .before .before .before .before .before .before in
+    let s = c .before .before .before .before .before .before .before in
     let h = c .before .before .before .before .loop in
     rw (h .inv .1) (task-need-le (s .args .reload) (s .args .part .now) (s .args .i) (h .j) (s .args .t) (s .pre .0) (s .pre .2) (h .inv .0) (s .pre .1))
 
@@ -67,19 +65,19 @@ mul-sum : tie.Need-mul-sum Inv-loop μ-loop
 mul-sum c = omega (arith, product-le c)
 
 add-sum : tie.Need-add-sum Inv-loop μ-loop
-add-sum c = omega (arith, product-le c, sum-le c, c .before .before .before .before .before .before .before .before .pre .2 .few)
+add-sum c = omega (arith, product-le c, sum-le c, c .before .before .before .before .before .before .before .pre .2 .few)
 
 add-j : tie.Need-add-j Inv-loop μ-loop
-add-j c = omega (arith, c .before .before .before .before .before .before .before .before .pre .2 .few)
+add-j c = omega (arith, c .before .before .before .before .before .before .before .pre .2 .few)
 
 loop-less : tie.Need-loop-less Inv-loop μ-loop
 loop-less c = omega arith
 
 loop-again : tie.Need-loop-again Inv-loop μ-loop
 loop-again c =
-    let a = c .before .before .before .before .before .before .before .before .args in
+    let a = c .before .before .before .before .before .before .before .args in
     let h = c .before .before .before .before .loop in
-    let term = rw (c .before .before .task-at2 .ensures) at (c .before .arrivals .ensures) in (
+    let term = rw (c .before .before .task-at .ensures) at (c .before .arrivals .ensures) in (
       omega arith,
       ap₂ (λ (x y : ℕ). x + y) (h .inv .1) (ap₂ (λ (x y : ℕ). x * y) term (c .charge .ensures))
           ∙ sym (need-next (cost (a .part .now) (a .i)) (taskPeriod (a .part .now)) (charge (a .reload) (a .part .now) (a .i)) (h .j) (a .t)),
@@ -89,7 +87,7 @@ returns : tie.Need-returns Inv-loop μ-loop
 unfolding taskNeed
 returns c =
     let h = c .before .loop in
-    let a = c .before .before .before .before .before .args in
+    let a = c .before .before .before .before .args in
     let all : h .j ≡ a .i = omega arith in
     h .inv .1 ∙ ap (λ (n : ℕ). need (cost (a .part .now) (a .i)) (taskPeriod (a .part .now)) (charge (a .reload) (a .part .now) (a .i)) n (a .t)) all
 
@@ -99,11 +97,10 @@ task-need-spec =
     (tie.spec
     Inv-loop
     μ-loop
-    task-at-requires
     cost-at-requires
     cast-sum
     loop-holds
-    task-at-requires-2
+    task-at-requires
     arrivals-requires
     charge-requires
     mul-sum
