@@ -8,8 +8,8 @@ ghost use Rattle.times.specs.Valid.{TaskRows, VcpuRows};
 ghost use Rattle.admission.specs.Paper.{paperFound};
 use crate::need::task_need;
 use crate::need::vcpu_need;
-use plan::task_word;
-use plan::vcpu_word;
+use crate::read::task_at;
+use crate::read::vcpu_at;
 
 pub enum Found {
     At(u32),
@@ -17,13 +17,14 @@ pub enum Found {
 }
 
 // The first microsecond in which a resource has supplied x.
-fn first_supply(period: u32, budget: u32, x: u64) -> u64
+fn first_supply(period: u32, budget: u32, x: u32) -> u64
     requires { ⌜ Budget period budget × (period ≤ 1000000) × (1 ≤ x) × (x ≤ 1000000) ⌝ }
     ensures { λ r. ⌜ r ≡ firstSupply period budget x ⌝ }
 {
-    let p = period as u64;
-    let q = budget as u64;
-    2 * (p - q) + (x - 1) / q * p + (x - 1) % q + 1
+    let gaps = 2 * (period - budget);
+    let whole = (x - 1) / budget;
+    let rest = (x - 1) % budget;
+    gaps as u64 + whole as u64 * (period as u64) + rest as u64 + 1
 }
 
 // The time of row i of a part under its VCPU's period and budget. A need above the deadline is late
@@ -32,14 +33,14 @@ pub(crate) fn time_in_part(period: u32, budget: u32, reload: u32, part: &[u32], 
     requires { ⌜ Budget period budget × (period ≤ 1000000) × (reload ≤ 10000) × TaskRows (now part) i ⌝ }
     ensures { λ r. ⌜ paperFound r ≡ timeInPart period budget reload (now (part .entry)) i ⌝ }
 {
-    let due = task_word(part, i, 2) as u64;
+    let due = task_at(part, i, 2) as u64;
     let mut t: u64 = 1;
     while t <= due {
-        let need = task_need(reload, part, i, t);
+        let need = task_need(reload, part, i, t as u32);
         if due < need {
             return Found::Late;
         }
-        let next = first_supply(period, budget, need);
+        let next = first_supply(period, budget, need as u32);
         if next <= t {
             return Found::At(t as u32);
         }
@@ -53,10 +54,10 @@ pub(crate) fn vcpu_time(vcpus: &[u32], i: u32) -> Found
     requires { ⌜ VcpuRows (now vcpus) i ⌝ }
     ensures { λ r. ⌜ paperFound r ≡ vcpuTimeOf (now (vcpus .entry)) i ⌝ }
 {
-    let due = vcpu_word(vcpus, i, 2) as u64;
+    let due = vcpu_at(vcpus, i, 2) as u64;
     let mut t: u64 = 1;
     while t <= due {
-        let need = vcpu_need(vcpus, i, t);
+        let need = vcpu_need(vcpus, i, t as u32);
         if need <= t {
             return Found::At(t as u32);
         }

@@ -1,4 +1,7 @@
 -- `admission::need::arrivals` meets its contract.
+use native.Mathlib.Nat.{div-le-self}
+use native.Mathlib.Omega.{arith}
+use Prim.Native.Nat.{_+_, _-_}
 use mathlib.Core.Path.{refl}
 use Rattle.times.specs.Need.{arrivals}
 use borrow.Author.Needs.{needs}
@@ -14,9 +17,12 @@ add-result c = search needs
 div-result : tie.Need-div-result
 div-result c = search needs
 
+cast-result : tie.Need-cast-result
+cast-result c = omega (arith, div-le-self (c .args .t + (c .args .period - 1)) (c .args .period))
+
 returns : tie.Need-returns
 unfolding arrivals
 returns c = refl
 
 pub arrivals-spec : {M : Type 1} → statement M
-arrivals-spec = tie.close (tie.spec sub-result add-result div-result returns)
+arrivals-spec = tie.close (tie.spec sub-result add-result div-result cast-result returns)

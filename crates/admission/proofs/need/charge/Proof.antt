@@ -2,48 +2,56 @@
 use Prim.Native.Nat.{_*_, _≤_}
 use native.Mathlib.Nat.{mul-le-mul}
 use native.Mathlib.Omega.{arith}
+use mathlib.Core.Path.{_≡_}
+use lib.Bits.{bitAnd}
+use lib.Count.{ones}
+use Rattle.plan.specs.Rows.{colours-shared}
 use Rattle.times.specs.Times.{charge}
 use Rattle.times.proofs.Rows.{shared-le}
 use borrow.Author.Needs.{needs}
 use Rattle.admission.proofs.need.charge.Statement.{statement}
 use Rattle.admission.proofs.need.charge.Tie as tie
 
-cost-requires : tie.Need-cost-requires
-cost-requires c κs = search needs
+task-at-requires : tie.Need-task-at-requires
+task-at-requires c κs = search needs
 
-cast-result : tie.Need-cast-result
-cast-result c = search needs
+task-at-requires-2 : tie.Need-task-at-requires-2
+task-at-requires-2 c κs = search needs
 
-shared-requires : tie.Need-shared-requires
-shared-requires c κs = search needs
+cost-at-requires : tie.Need-cost-at-requires
+cost-at-requires c κs = search needs
 
-cast-result-2 : tie.Need-cast-result-2
-cast-result-2 c = search needs
+shared-is : (c : tie.After-task-at2) → ones (bitAnd (c .before .task-at .result) (c .task-at2 .result)) ≡ colours-shared (c .before .before .before .args .part .now) (c .before .before .before .args .i) (c .before .before .before .args .j)
+unfolding colours-shared
+shared-is c = rw (c .before .task-at .ensures, c .task-at2 .ensures)
 
-reload-le : (c : tie.After-shared) → c .before .before .before .args .reload * c .shared .result ≤ 160000
+reload-le : (c : tie.After-task-at2) → c .before .before .before .args .reload * ones (bitAnd (c .before .task-at .result) (c .task-at2 .result)) ≤ 160000
 reload-le c =
     let s = c .before .before .before in
-    let few : c .shared .result ≤ 16 = rw (c .shared .ensures) (shared-le (s .args .part .now) (s .args .i) (s .args .j) (s .pre .1)) in
+    let few : ones (bitAnd (c .before .task-at .result) (c .task-at2 .result)) ≤ 16 = rw (shared-is c) (shared-le (s .args .part .now) (s .args .i) (s .args .j) (s .pre .2)) in
     mul-le-mul (s .pre .0) few
 
 mul-result : tie.Need-mul-result
-mul-result c = omega (arith, reload-le c)
+mul-result c = omega (arith, reload-le (c .before))
 
 add-result : tie.Need-add-result
-add-result c = omega (arith, reload-le c, c .before .cost .ensures, c .before .before .before .pre .1 .cost-high)
+add-result c = omega (arith, reload-le (c .before), c .cost-at .ensures, c .before .before .before .before .pre .2 .cost-high)
+
+cast-result : tie.Need-cast-result
+cast-result c = omega (arith, reload-le (c .before), c .cost-at .ensures, c .before .before .before .before .pre .2 .cost-high)
 
 returns : tie.Need-returns
 unfolding charge
-returns c = rw (c .before .cost .ensures, c .shared .ensures)
+returns c = rw (c .cost-at .ensures, shared-is (c .before))
 
 pub charge-spec : {M : Type 1} → statement M
 charge-spec =
     tie.close
     (tie.spec
-    cost-requires
-    cast-result
-    shared-requires
-    cast-result-2
+    task-at-requires
+    task-at-requires-2
+    cost-at-requires
     mul-result
     add-result
+    cast-result
     returns)

@@ -1,6 +1,6 @@
 -- `admission::need::task_need` meets its contract. The invariant: the sum is the need over the rows passed, which has a bound.
 use Prim.Native.Nat.{ℕ, _+_, _-_, _*_, _≤_}
-use native.Mathlib.Nat.{le-trans, mul-le-mul}
+use native.Mathlib.Nat.{le-refl, le-trans, mul-le-mul}
 use native.Mathlib.Omega.{arith}
 use mathlib.Core.Path.{_≡_, sym, ap, ap₂, _∙_}
 use Rattle.plan.specs.Rows.{taskPeriod, cost}
@@ -18,28 +18,35 @@ Inv-loop reload part i t sum₀ j₀ sum j = (j ≤ i) × (sum ≡ need (cost pa
 abbrev μ-loop : tie.MeasureT-loop
 μ-loop reload part i t sum₀ j₀ sum j = i - j
 
-cost-requires : tie.Need-cost-requires Inv-loop μ-loop
-cost-requires c κs = tt
+own-row : (c : tie.Start Inv-loop μ-loop) → TaskRow (c .args .part .now) (c .args .i)
+own-row c = c .pre .2 .row (c .args .i) (le-refl (c .args .i))
+
+cost-at-requires : tie.Need-cost-at-requires Inv-loop μ-loop
+cost-at-requires c κs = own-row (c .before)
 
 cast-sum : tie.Need-cast-sum Inv-loop μ-loop
-cast-sum c = omega (arith, c .cost .ok)
+cast-sum c = omega (arith, c .cost-at .ok)
 
 loop-holds : tie.Need-loop-holds Inv-loop μ-loop
 unfolding need
-loop-holds c = (omega arith, c .cost .ensures)
-
-task-word-requires : tie.Need-task-word-requires Inv-loop μ-loop
-task-word-requires c κs = tt
+loop-holds c = (omega arith, c .cost-at .ensures)
 
 -- the row that the loop has come to
 row : (c : tie.In-loop Inv-loop μ-loop) → TaskRow (c .before .before .before .before .args .part .now) (c .before .loop .j)
 row c = c .before .before .before .before .pre .2 .row (c .before .loop .j) (omega arith)
 
+task-at-requires : tie.Need-task-at-requires Inv-loop μ-loop
+task-at-requires c κs = omega (arith, row c .whole)
+
 arrivals-requires : tie.Need-arrivals-requires Inv-loop μ-loop
-arrivals-requires c κs = (c .before .before .before .before .before .pre .1, rw (c .task-word .ensures) (row (c .before) .period-low))
+arrivals-requires c κs =
+    let r = row (c .before) in
+    (c .before .before .before .before .before .pre .1, rw (c .task-at .ensures) (r .period-low), rw (c .task-at .ensures) (r .period-high))
 
 charge-requires : tie.Need-charge-requires Inv-loop μ-loop
-charge-requires c κs = (c .before .before .before .before .before .before .pre .0, row (c .before .before))
+charge-requires c κs =
+    let s = c .before .before .before .before .before .before in
+    (s .pre .0, own-row s, row (c .before .before))
 
 product-le : (c : tie.After-charge Inv-loop μ-loop) → c .before .arrivals .result * c .charge .result ≤ 1160000000000
 product-le c =
@@ -68,10 +75,9 @@ loop-less c = omega arith
 
 loop-again : tie.Need-loop-again Inv-loop μ-loop
 loop-again c =
-    let s = c .before .before .before .before .before .before .before in
-    let a = s .args in
+    let a = c .before .before .before .before .before .before .before .args in
     let h = c .before .before .before .before .loop in
-    let term = rw (c .before .before .task-word .ensures) at (c .before .arrivals .ensures) in (
+    let term = rw (c .before .before .task-at .ensures) at (c .before .arrivals .ensures) in (
       omega arith,
       ap₂ (λ (x y : ℕ). x + y) (h .inv .1) (ap₂ (λ (x y : ℕ). x * y) term (c .charge .ensures))
           ∙ sym (need-next (cost (a .part .now) (a .i)) (taskPeriod (a .part .now)) (charge (a .reload) (a .part .now) (a .i)) (h .j) (a .t)),
@@ -91,10 +97,10 @@ task-need-spec =
     (tie.spec
     Inv-loop
     μ-loop
-    cost-requires
+    cost-at-requires
     cast-sum
     loop-holds
-    task-word-requires
+    task-at-requires
     arrivals-requires
     charge-requires
     mul-sum

@@ -8,34 +8,44 @@ use borrow.Author.Needs.{needs}
 use Rattle.admission.proofs.search.first_supply.Statement.{statement}
 use Rattle.admission.proofs.search.first_supply.Tie as tie
 
-sub-result : tie.Need-sub-result
-sub-result c = search needs
+sub-gaps : tie.Need-sub-gaps
+sub-gaps c = search needs
 
-mul-result : tie.Need-mul-result
-mul-result c = search needs
+mul-gaps : tie.Need-mul-gaps
+mul-gaps c = search needs
 
-sub-result-2 : tie.Need-sub-result-2
-sub-result-2 c = search needs
+sub-whole : tie.Need-sub-whole
+sub-whole c = search needs
 
-div-result : tie.Need-div-result
-div-result c = search needs
+div-whole : tie.Need-div-whole
+div-whole c = search needs
+
+sub-rest : tie.Need-sub-rest
+sub-rest c = search needs
+
+rem-rest : tie.Need-rem-rest
+rem-rest c = search needs
+
+cast-result : tie.Need-cast-result
+cast-result c = search needs
+
+whole-le : (c : tie.Start) → (c .args .x - 1) / c .args .budget ≤ 1000000
+whole-le c = omega (arith, div-le-self (c .args .x - 1) (c .args .budget), c .pre .3)
 
 rows-le : (c : tie.Start) → (c .args .x - 1) / c .args .budget * c .args .period ≤ 1000000000000
-rows-le c =
-    let few : (c .args .x - 1) / c .args .budget ≤ 1000000 = omega (arith, div-le-self (c .args .x - 1) (c .args .budget), c .pre .3) in
-    mul-le-mul few (c .pre .1)
+rows-le c = mul-le-mul (whole-le c) (c .pre .1)
 
-mul-result-2 : tie.Need-mul-result-2
-mul-result-2 c = omega (arith, rows-le c, mod-le (c .args .x - 1) (c .args .budget), c .pre .1, c .pre .3)
+cast-result-2 : tie.Need-cast-result-2
+cast-result-2 c = omega (arith, whole-le c)
+
+mul-result : tie.Need-mul-result
+mul-result c = omega (arith, rows-le c)
 
 add-result : tie.Need-add-result
-add-result c = omega (arith, rows-le c, mod-le (c .args .x - 1) (c .args .budget), c .pre .1, c .pre .3)
+add-result c = omega (arith, rows-le c, c .pre .1)
 
-sub-result-3 : tie.Need-sub-result-3
-sub-result-3 c = search needs
-
-rem-result : tie.Need-rem-result
-rem-result c = search needs
+cast-result-3 : tie.Need-cast-result-3
+cast-result-3 c = omega (arith, mod-le (c .args .x - 1) (c .args .budget), c .pre .3)
 
 add-result-2 : tie.Need-add-result-2
 add-result-2 c = omega (arith, rows-le c, mod-le (c .args .x - 1) (c .args .budget), c .pre .1, c .pre .3)
@@ -51,14 +61,17 @@ pub first-supply-spec : {M : Type 1} → statement M
 first-supply-spec =
     tie.close
     (tie.spec
-    sub-result
+    sub-gaps
+    mul-gaps
+    sub-whole
+    div-whole
+    sub-rest
+    rem-rest
+    cast-result
+    cast-result-2
     mul-result
-    sub-result-2
-    div-result
-    mul-result-2
     add-result
-    sub-result-3
-    rem-result
+    cast-result-3
     add-result-2
     add-result-3
     returns)

@@ -28,14 +28,17 @@ search-of c = task-search (c .args .period) (c .args .budget) (c .args .reload) 
 due-le : (c : tie.Start Inv-loop μ-loop) → deadline (c .args .part .now) (c .args .i) ≤ 1000000
 due-le c = let r = c .pre .3 .row (c .args .i) (le-refl (c .args .i)) in le-trans (r .due-high) (r .period-high)
 
-task-word-requires : tie.Need-task-word-requires Inv-loop μ-loop
-task-word-requires c κs = tt
+task-at-requires : tie.Need-task-at-requires Inv-loop μ-loop
+task-at-requires c κs = omega (arith, c .before .pre .3 .row (c .before .args .i) (le-refl (c .before .args .i)) .whole)
 
 cast-due : tie.Need-cast-due Inv-loop μ-loop
-cast-due c = omega (arith, c .task-word .ok)
+cast-due c = omega (arith, c .task-at .ok)
 
 loop-holds : tie.Need-loop-holds Inv-loop μ-loop
-loop-holds c = (omega arith, c .task-word .ensures, before-one (search-of (c .before .before)))
+loop-holds c = (omega arith, c .task-at .ensures, before-one (search-of (c .before .before)))
+
+cast-task-need : tie.Need-cast-task-need Inv-loop μ-loop
+cast-task-need c = omega (arith, due-le (c .before .before .before .before), c .before .loop .inv .1)
 
 task-need-requires : tie.Need-task-need-requires Inv-loop μ-loop
 task-need-requires c κs =
@@ -49,14 +52,17 @@ returns c =
     let h = c .before .before .before .loop in
     sym (exceeded (search-of s) (deadline (s .args .part .now) (s .args .i)) (h .t) (h .inv .0) (h .inv .2) (rw (h .inv .1, c .before .task-need .ensures) at (c .if1 .taken)))
 
+cast-first-supply : tie.Need-cast-first-supply Inv-loop μ-loop
+cast-first-supply c = omega (arith, due-le (c .before .before .before .before .before .before), c .before .before .before .loop .inv .1)
+
 first-supply-requires : tie.Need-first-supply-requires Inv-loop μ-loop
 first-supply-requires c κs =
     let s = c .before .before .before .before .before .before in
     let h = c .before .before .before .loop in
     (s .pre .0, s .pre .1, rw (c .before .task-need .ensures) (search-of s .some (h .t)), omega (arith, due-le s, h .inv .1))
 
-cast-t12 : tie.Need-cast-t12 Inv-loop μ-loop
-cast-t12 c =
+cast-t13 : tie.Need-cast-t13 Inv-loop μ-loop
+cast-t13 c =
     let h = c .before .before .before .before .before .loop in
     omega (arith, due-le (c .before .before .before .before .before .before .before .before), h .inv .1)
 
@@ -90,13 +96,15 @@ time-in-part-spec =
     (tie.spec
     Inv-loop
     μ-loop
-    task-word-requires
+    task-at-requires
     cast-due
     loop-holds
+    cast-task-need
     task-need-requires
     returns
+    cast-first-supply
     first-supply-requires
-    cast-t12
+    cast-t13
     returns-2
     loop-less
     loop-again

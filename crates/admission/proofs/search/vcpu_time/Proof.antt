@@ -25,22 +25,25 @@ search-of c = vcpu-search (c .args .vcpus .now) (c .args .i) (c .pre)
 due-le : (c : tie.Start Inv-loop μ-loop) → vcpuPeriod (c .args .vcpus .now) (c .args .i) ≤ 1000000
 due-le c = c .pre .row (c .args .i) (le-refl (c .args .i)) .period-high
 
-vcpu-word-requires : tie.Need-vcpu-word-requires Inv-loop μ-loop
-vcpu-word-requires c κs = tt
+vcpu-at-requires : tie.Need-vcpu-at-requires Inv-loop μ-loop
+vcpu-at-requires c κs = omega (arith, c .before .pre .row (c .before .args .i) (le-refl (c .before .args .i)) .whole)
 
 cast-due : tie.Need-cast-due Inv-loop μ-loop
-cast-due c = omega (arith, c .vcpu-word .ok)
+cast-due c = omega (arith, c .vcpu-at .ok)
 
 loop-holds : tie.Need-loop-holds Inv-loop μ-loop
-loop-holds c = (omega arith, c .vcpu-word .ensures, before-one (search-of (c .before .before)))
+loop-holds c = (omega arith, c .vcpu-at .ensures, before-one (search-of (c .before .before)))
+
+cast-vcpu-need : tie.Need-cast-vcpu-need Inv-loop μ-loop
+cast-vcpu-need c = omega (arith, due-le (c .before .before .before .before), c .before .loop .inv .1)
 
 vcpu-need-requires : tie.Need-vcpu-need-requires Inv-loop μ-loop
 vcpu-need-requires c κs =
     let s = c .before .before .before .before in
     (omega (arith, due-le s, c .before .loop .inv .1), s .pre)
 
-cast-t8 : tie.Need-cast-t8 Inv-loop μ-loop
-cast-t8 c =
+cast-t9 : tie.Need-cast-t9 Inv-loop μ-loop
+cast-t9 c =
     let h = c .before .before .before .loop in
     omega (arith, due-le (c .before .before .before .before .before .before), h .inv .1)
 
@@ -74,11 +77,12 @@ vcpu-time-spec =
     (tie.spec
     Inv-loop
     μ-loop
-    vcpu-word-requires
+    vcpu-at-requires
     cast-due
     loop-holds
+    cast-vcpu-need
     vcpu-need-requires
-    cast-t8
+    cast-t9
     returns
     loop-less
     loop-again
