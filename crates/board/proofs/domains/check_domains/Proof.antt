@@ -1,45 +1,19 @@
--- `board::domains::check_domains` meets its contract: refusals 5 to 7 in their order (`Faults`).
-use borrow.Author.Tests.{lt-ltb, le-ltb}
+-- `board::domains::check_domains` meets its contract: a board in order is accepted, and another goes through the tests.
 use borrow.Author.Needs.{needs}
-use Rattle.board.proofs.Faults.{domain-reply}
 use Rattle.board.proofs.domains.check_domains.Statement.{statement}
 use Rattle.board.proofs.domains.check_domains.Tie as tie
 
-wrong-grant-requires : tie.Need-wrong-grant-requires
-wrong-grant-requires c κs = search needs
+in-order-requires : tie.Need-in-order-requires
+in-order-requires c κs = search needs
 
 returns : tie.Need-returns
-returns c = rw (domain-reply, ← c .before .wrong-grant .ensures, lt-ltb _ _ (c .if1 .taken))
+returns c = c .before .in-order .ensures (c .if1 .taken)
 
-shared-grant-requires : tie.Need-shared-grant-requires
-shared-grant-requires c κs = search needs
+first-fault-requires : tie.Need-first-fault-requires
+first-fault-requires c κs = search needs
 
 returns-2 : tie.Need-returns-2
-returns-2 c =
-    rw
-    (domain-reply, ← c .before .before .before .wrong-grant .ensures, le-ltb _ _ (c .before .before .if1 .left), ← c .before .shared-grant .ensures, lt-ltb _ _ (c .if2 .taken))
-
-wrong-active-requires : tie.Need-wrong-active-requires
-wrong-active-requires c κs = search needs
-
-returns-3 : tie.Need-returns-3
-returns-3 c =
-    rw
-    (domain-reply, ← c .before .before .before .before .before .wrong-grant .ensures, le-ltb _ _ (c .before .before .before .before .if1 .left), ← c .before .before .before .shared-grant .ensures, le-ltb _ _ (c .before .before .if2 .left), ← c .before .wrong-active .ensures, lt-ltb _ _ (c .if3 .taken))
-
-returns-4 : tie.Need-returns-4
-returns-4 c =
-    rw
-    (domain-reply, ← c .before .before .before .before .before .wrong-grant .ensures, le-ltb _ _ (c .before .before .before .before .if1 .left), ← c .before .before .before .shared-grant .ensures, le-ltb _ _ (c .before .before .if2 .left), ← c .before .wrong-active .ensures, le-ltb _ _ (c .if3 .left))
+returns-2 c = search needs
 
 pub check-domains-spec : {M : Type 1} → statement M
-check-domains-spec =
-    tie.close
-    (tie.spec
-    wrong-grant-requires
-    returns
-    shared-grant-requires
-    returns-2
-    wrong-active-requires
-    returns-3
-    returns-4)
+check-domains-spec = tie.close (tie.spec in-order-requires returns first-fault-requires returns-2)
