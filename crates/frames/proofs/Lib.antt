@@ -1,5 +1,6 @@
 -- The laws of `frames`.
 pub mod Masks
+pub mod Blocks
 pub mod Called
 pub mod Pages
 pub mod Step

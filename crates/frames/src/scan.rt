@@ -2,10 +2,10 @@
 // stray from a frame on, and how many there are. Each gives the table's length where there is none.
 ghost use mathlib.Core.Path.{_≡_};
 ghost use mathlib.Core.Bool.{true, not, _&&_};
-ghost use Prim.Native.Nat.{_≤_, _<_};
+ghost use Prim.Native.Nat.{ℕ, _+_, _≤_, _<_};
 ghost use lib.Dec.{eqb, leb};
 ghost use lib.ListN.{length};
-ghost use Rattle.lists.specs.Range.{keep, upto, lowest, lowestFrom};
+ghost use Rattle.lists.specs.Range.{keep, upto, any, lowest, lowestFrom};
 ghost use Rattle.colours.specs.Cache.{isColourCount, colourOf};
 ghost use Rattle.colours.specs.Sets.{has};
 ghost use Rattle.calls.specs.Table.{wordOf};
@@ -44,12 +44,43 @@ fn is_stray(word: u16, first: u16, last: u16, colours: usize, set: usize, frame:
     first <= word && word <= last && !in_set(colours, set, frame)
 }
 
+// Whether one of sixteen frames from one on has a word. All are read, so that they can be compared at
+// once.
+fn word_within(table: &[u16], start: usize, word: u16) -> bool
+    requires { ⌜ start + 16 ≤ length (now table) ⌝ }
+    ensures { λ r. ⌜ r ≡ any (λ (i : ℕ). wordAt (now (table .entry)) word (start + i)) (upto 16) ⌝ }
+{
+    let mut found = false;
+    let mut i: usize = 0;
+    while i < 16 {
+        found = found | (table[start + i] == word);
+        i += 1;
+    }
+    found
+}
+
+// A frame from which on a word may be looked for in place of an earlier one: sixteen frames at a time
+// are passed over that do not have it.
+fn pass_to_word(table: &[u16], start: usize, word: u16) -> usize
+    requires { ⌜ start ≤ length (now table) ⌝ }
+    ensures { λ r. ⌜ (r ≤ length (now (table .entry))) × (lowestFrom (wordAt (now (table .entry)) word) start (length (now (table .entry))) ≡ lowestFrom (wordAt (now (table .entry)) word) r (length (now (table .entry)))) ⌝ }
+{
+    let mut f = start;
+    while 16 <= table.len() - f {
+        if word_within(table, f, word) {
+            return f;
+        }
+        f += 16;
+    }
+    f
+}
+
 // The lowest frame from one on that has a word.
 pub(crate) fn next_word(table: &[u16], start: usize, word: u16) -> usize
     requires { ⌜ start ≤ length (now table) ⌝ }
     ensures { λ r. ⌜ r ≡ lowestFrom (wordAt (now (table .entry)) word) start (length (now (table .entry))) ⌝ }
 {
-    let mut f = start;
+    let mut f = pass_to_word(table, start, word);
     while f < table.len() {
         if table[f] == word {
             return f;

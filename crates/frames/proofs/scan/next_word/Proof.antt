@@ -19,17 +19,20 @@ abbrev μ-loop : tie.MeasureT-loop
 μ-loop table start word f₀ f = length table - f
 
 loop-holds : tie.Need-loop-holds Inv-loop μ-loop
-loop-holds c = (omega arith, refl)
+loop-holds c = c .pass-to-word .ensures
 
 mul-if1 : tie.Need-mul-if1 Inv-loop μ-loop
 mul-if1 c = omega arith
+
+pass-to-word-requires : tie.Need-pass-to-word-requires Inv-loop μ-loop
+pass-to-word-requires c κs = omega arith
 
 shared-slice-read-if1 : tie.Need-shared-slice-read-if1 Inv-loop μ-loop
 shared-slice-read-if1 c = omega arith
 
 returns : tie.Need-returns Inv-loop μ-loop
 returns c =
-    let a = c .before .before .before .before .args in
+    let a = c .before .before .before .before .before .before .args in
     let t : List ℕ = a .table .now in
     let h = c .before .before .before .loop in
     let here : wordAt t (a .word) (h .f) ≡ true = eq-eqb _ _ (c .if1 .taken) in
@@ -43,7 +46,7 @@ loop-less c = omega arith
 
 loop-again : tie.Need-loop-again Inv-loop μ-loop
 loop-again c =
-    let a = c .before .before .before .before .args in
+    let a = c .before .before .before .before .before .before .args in
     let t : List ℕ = a .table .now in
     let h = c .before .before .before .loop in
     let here : wordAt t (a .word) (h .f) ≡ false = ne-eqb _ _ (c .if1 .left) in
@@ -51,7 +54,7 @@ loop-again c =
 
 returns-2 : tie.Need-returns-2 Inv-loop μ-loop
 returns-2 c =
-    let a = c .before .before .args in
+    let a = c .before .before .before .before .args in
     let t : List ℕ = a .table .now in
     let h = c .before .loop in
     let done : h .f ≡ length t = omega arith in
@@ -63,6 +66,7 @@ next-word-spec =
     (tie.spec
     Inv-loop
     μ-loop
+    pass-to-word-requires
     loop-holds
     mul-if1
     shared-slice-read-if1
