@@ -1,7 +1,7 @@
 -- `admission::need::arrivals` meets its contract.
+use Prim.Native.Nat.{_+_, _-_}
 use native.Mathlib.Nat.{div-le-self}
 use native.Mathlib.Omega.{arith}
-use Prim.Native.Nat.{_+_, _-_}
 use mathlib.Core.Path.{refl}
 use Rattle.times.specs.Need.{arrivals}
 use borrow.Author.Needs.{needs}

@@ -18,6 +18,7 @@ Inv-loop reload part i t sum₀ j₀ sum j = (j ≤ i) × (sum ≡ need (cost pa
 abbrev μ-loop : tie.MeasureT-loop
 μ-loop reload part i t sum₀ j₀ sum j = i - j
 
+-- the row whose need is worked out
 own-row : (c : tie.Start Inv-loop μ-loop) → TaskRow (c .args .part .now) (c .args .i)
 own-row c = c .pre .2 .row (c .args .i) (le-refl (c .args .i))
 

@@ -1,4 +1,5 @@
--- `admission::need::vcpu_need` meets its contract. The invariant: the sum is the need over the rows passed, which has a bound.
+-- `admission::need::vcpu_need` meets its contract. The invariant: the sum is the need over the rows passed, which has a bound. A row of
+-- another core adds its arrivals times 0.
 use Prim.Native.Nat.{ℕ, _+_, _-_, _*_, _≤_}
 use native.Mathlib.Nat.{le-refl, le-trans, mul-le-mul}
 use native.Mathlib.Omega.{arith}
@@ -21,6 +22,7 @@ Inv-loop vcpus i t core sum₀ j₀ sum j = (j ≤ i) × (sum ≡ need (budget v
 abbrev μ-loop : tie.MeasureT-loop
 μ-loop vcpus i t core sum₀ j₀ sum j = i - j
 
+-- the row whose need is worked out
 own-row : (c : tie.Start Inv-loop μ-loop) → VcpuRow (c .args .vcpus .now) (c .args .i)
 own-row c = c .pre .1 .row (c .args .i) (le-refl (c .args .i))
 
@@ -84,6 +86,7 @@ add-j c = omega (arith, c .before .before .before .before .before .before .befor
 loop-less : tie.Need-loop-less Inv-loop μ-loop
 loop-less c = omega arith
 
+-- an earlier VCPU of the same core charges its budget, and one of another core nothing
 same-core : (vcpus : List ℕ) (i j : ℕ) → core vcpus j ≡ core vcpus i → vcpuCharge vcpus i j ≡ budget vcpus j
 unfolding vcpuCharge
 same-core vcpus i j e = simp (eq-eqb (core vcpus j) (core vcpus i) e)
