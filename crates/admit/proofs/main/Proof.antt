@@ -11,6 +11,9 @@ slice-aggregate-read-full c = search needs
 read-full-requires : tie.Need-read-full-requires
 read-full-requires c κs = search needs
 
+read-on-requires : tie.Need-read-on-requires
+read-on-requires c κs = search needs
+
 array-share-prefix-input : tie.Need-array-share-prefix-input
 array-share-prefix-input c = search needs
 
@@ -41,6 +44,7 @@ main-spec =
     (tie.spec
     slice-aggregate-read-full
     read-full-requires
+    read-on-requires
     array-share-prefix-input
     slice-aggregate-report
     report-requires
