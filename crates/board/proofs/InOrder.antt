@@ -1,18 +1,16 @@
 -- A board with no domain at fault, gone over once: the union of the grants so far stands for each of them.
-use Prim.Native.Nat.{ℕ, zero, suc, _+_, _*_, _/_, _%_, _^_, _<_, _≤_, zero-le, min, max}
+use Prim.Native.Nat.{ℕ, _+_, _*_, _/_, _%_, _^_, _<_, _≤_, zero-le, min, max}
 use native.Mathlib.Nat.{lt-irrefl, max-le, le-max-left, div-mul-le-self, le-div-iff-mul-le}
 use native.Mathlib.Omega.{arith}
-use mathlib.Core.Bool.{Bool, true, false, not, _&&_, _||_}
-use mathlib.Core.List.{[], _∷_}
-use mathlib.Core.Path.{_≡_, refl, sym, ap, _∙_}
+use mathlib.Core.Bool.{true, false, not, _&&_}
+use mathlib.Core.Path.{_≡_, ap, _∙_}
 use lib.Arith.{bin-ind}
-use lib.Bits.{bitAnd, bitOr, and-step, or-step, or-shr, or-comm, and-comm, or-add-and, and-le-r, and-zero-r}
+use lib.Bits.{bitAnd, bitOr, and-step, or-step, or-shr, or-comm, and-comm, or-add-and, and-le-r}
 use lib.Dec.{eqb, ltb}
 use lib.Pow.{pow-pos}
 use borrow.Author.Tests.{eq-eqb, ne-eqb, eqb-true, eqb-false, le-ltb, not-false}
-use Rattle.lists.specs.Range.{from, upto, any, keep, lowest}
-use Rattle.lists.proofs.Split.{cases, below-or-not, and-both, and-never, neither}
-use Rattle.lists.proofs.Found.{none-kept}
+use Rattle.lists.proofs.Split.{cases, below-or-not, and-both, neither}
+use Rattle.lists.proofs.Found.{none-lowest, none-any}
 use Rattle.refusal.specs.Reply.{Answers, unless}
 use Rattle.colours.specs.Sets.{isColourSet}
 use Rattle.board.specs.declared.Board.{Board}
@@ -77,15 +75,6 @@ passed-next b d s p set free =
       below = λ e l. one-more (λ (i : ℕ). grant b i ≤ bitOr s g) d e l (λ m. omega (arith, p .below e m, union-left s g)) (union-right s g);
     }
 
-none-any : (p : ℕ → Bool) (n i : ℕ) → ((d : ℕ) → i ≤ d → d < i + n → p d ≡ false) → any p (from i n) ≡ false
-unfolding from
-none-any p zero i h = refl
-none-any p (suc n) i h = rw (h i (omega arith) (omega arith)) (none-any p n (suc i) (λ d l m. h d (omega arith) (omega arith)))
-
-none-lowest : (p : ℕ → Bool) (n : ℕ) → ((d : ℕ) → d < n → p d ≡ false) → lowest p n ≡ n
-unfolding lowest
-none-lowest p n h = rw (none-kept p n h)
-
 module _ (b : Board) (s : ℕ) (p : Passed b (b .domains) s) (c : isColourSet (b .colours) s ≡ true) where
   granted : (d : ℕ) → d < b .domains → not (isColourSet (b .colours) (grant b d)) ≡ false
   unfolding isColourSet
@@ -101,8 +90,8 @@ module _ (b : Board) (s : ℕ) (p : Passed b (b .domains) s) (c : isColourSet (b
 
   not-shared : (d : ℕ) → d < b .domains → sharesWithAnother b d ≡ false
   not-shared d l =
-      none-any (λ (e : ℕ). not (eqb e d) && shares (grant b d) (grant b e)) (b .domains) 0
-      (λ e low high.
+      none-any (λ (e : ℕ). not (eqb e d) && shares (grant b d) (grant b e)) (b .domains)
+      (λ e high.
       cases (eqb e d) (λ q. rw q)
       (λ q.
       let free : bitAnd (grant b d) (grant b e) ≡ 0 =

@@ -2,11 +2,11 @@
 use Prim.Native.Nat.{ℕ, zero, suc, _+_, _-_, _<_, _≤_}
 use native.Mathlib.Nat.{le-refl, eq-or-lt-of-le, lt-irrefl}
 use native.Mathlib.Omega.{arith}
-use mathlib.Core.Bool.{Bool, true, false}
+use mathlib.Core.Bool.{Bool, true, false, true≢false}
 use mathlib.Core.List.{[], _∷_}
 use mathlib.Core.Logic.{⊎-elim}
-use mathlib.Core.Path.{_≡_, ap, _∙_}
-use Rattle.lists.specs.Range.{from, upto, keep, any, lowestFrom}
+use mathlib.Core.Path.{_≡_, refl, sym, ap, _∙_}
+use Rattle.lists.specs.Range.{from, upto, keep, any, lowest, lowestFrom}
 use Rattle.lists.proofs.Split.{cases, below-or-not, neither}
 use Rattle.lists.proofs.Kept.{ahead, ahead-start, ahead-take, ahead-skip, ahead-end}
 use Rattle.lists.proofs.Sought.{sought-hit, sought-miss, sought-end}
@@ -96,6 +96,15 @@ module _ (p : ℕ → Bool) where
   pub missed-list : (i n : ℕ) → i ≤ n → n ≤ lowestFrom p i n → ahead p i n ≡ []
   missed-list i n l h = ahead-past i n n l (le-refl n) (missed i n h) ∙ ahead-end p n n (le-refl n)
 
+  -- a search may start after numbers that do not pass
+  pub sought-past : (i j n : ℕ) → i ≤ j → j ≤ n → ((m : ℕ) → i ≤ m → m < j → p m ≡ false) → lowestFrom p i n ≡ lowestFrom p j n
+  unfolding lowestFrom ahead
+  sought-past i j n l h none = rw (ahead-past i j n l h none)
+
+  pub none-lowest : (n : ℕ) → ((m : ℕ) → m < n → p m ≡ false) → lowest p n ≡ n
+  unfolding lowest
+  none-lowest n none = rw (none-kept n none)
+
   -- no search goes beyond the range
   pub sought-le : (i n : ℕ) → i ≤ n → lowestFrom p i n ≤ n
   unfolding lowestFrom ahead
@@ -116,3 +125,32 @@ any-from p (suc n) i d e l h =
 
 pub any-none : (p : ℕ → Bool) (n d : ℕ) → any p (upto n) ≡ false → d < n → p d ≡ false
 any-none p n d e h = any-from p n 0 d e (omega arith) (omega arith)
+
+-- and the other way
+pub none-from : (p : ℕ → Bool) (n i : ℕ) → ((d : ℕ) → i ≤ d → d < i + n → p d ≡ false) → any p (from i n) ≡ false
+unfolding from
+none-from p zero i h = refl
+none-from p (suc n) i h =
+    rw (h i (le-refl i) (omega arith)) (none-from p n (suc i) (λ d l m. h d (omega arith) (omega arith)))
+
+pub none-any : (p : ℕ → Bool) (n : ℕ) → ((d : ℕ) → d < n → p d ≡ false) → any p (upto n) ≡ false
+none-any p n h = none-from p n 0 (λ d l m. h d (omega arith))
+
+-- what is found is the one number that passes with none before it
+pub sought-is : (p : ℕ → Bool) (i n s : ℕ) → i ≤ s → s < n → p s ≡ true → ((m : ℕ) → i ≤ m → m < s → p m ≡ false) → lowestFrom p i n ≡ s
+sought-is p i n s l h e none = sought-past p i s n l (omega arith) none ∙ sought-hit p s n h e
+
+-- a test that agrees with another below n finds the same there, in a longer range
+pub sought-same : (p q : ℕ → Bool) (i n m : ℕ) → n ≤ m → ((k : ℕ) → k < n → q k ≡ p k) → lowestFrom p i n < n → lowestFrom q i m ≡ lowestFrom p i n
+sought-same p q i n m le same h =
+    let f = found p i n h in
+    sought-is q i m (lowestFrom p i n) (f .low) (omega arith) (same _ h ∙ f .passes) (λ k a b. same k (omega arith) ∙ f .before k a b)
+
+-- and where that finds nothing below n, it finds nothing there either
+pub sought-beyond : (p q : ℕ → Bool) (i n m : ℕ) → n ≤ m → ((k : ℕ) → k < n → q k ≡ p k) → n ≤ lowestFrom p i n → n ≤ lowestFrom q i m
+sought-beyond p q i n m le same h =
+    below-or-not (lowestFrom q i m) n
+    (λ l.
+    let f = found q i m (omega arith) in
+    absurd (true≢false (sym (f .passes) ∙ same _ l ∙ missed p i n h _ (f .low) l)))
+    (λ l. l)

@@ -1,12 +1,13 @@
 -- A loop that looks for the lowest number that passes a test, and one that asks whether any does: what it has found is settled by the
 -- numbers from the one it has come to.
-use Prim.Native.Nat.{ℕ, suc, _+_, _-_, _<_, _≤_}
-use native.Mathlib.Nat.{sub-zero}
+use Prim.Native.Nat.{ℕ, zero, suc, _+_, _-_, _<_, _≤_}
+use native.Mathlib.Nat.{le-refl, sub-zero}
 use native.Mathlib.Numerals.{add-one}
 use native.Mathlib.Omega.{arith}
-use mathlib.Core.Bool.{Bool, true, false}
-use mathlib.Core.Path.{_≡_}
+use mathlib.Core.Bool.{Bool, true, false, _||_}
+use mathlib.Core.Path.{_≡_, refl, sym, ap, _∙_}
 use Rattle.lists.specs.Range.{from, upto, any, lowest, lowestFrom}
+use Rattle.lists.proofs.Split.{cases}
 use Rattle.lists.proofs.Kept.{ahead, ahead-start, ahead-take, ahead-skip, ahead-end}
 
 module _ (p : ℕ → Bool) where
@@ -45,3 +46,23 @@ module _ (p : ℕ → Bool) where
   pub any-end : (i n : ℕ) → n ≤ i → anyAhead i n ≡ false
   unfolding anyAhead from
   any-end i n h = let s : n - i ≡ 0 = omega arith in rw s
+
+  -- nothing below m passes, so that it is asked from m on
+  pub any-past : (n m : ℕ) → m ≤ n → ((k : ℕ) → k < m → p k ≡ false) → anyAhead 0 n ≡ anyAhead m n
+  any-past n zero h none = refl
+  any-past n (suc m) h none =
+      any-past n m (omega arith) (λ k l. none k (omega arith))
+      ∙ any-miss m n h (none m (le-refl (suc m)))
+      ∙ ap (λ (i : ℕ). anyAhead i n) (add-one m)
+
+  -- a loop that reads all the same: what it has found among the numbers before i, with those ahead, answers for all
+  abbrev pub Asked : ℕ → ℕ → Bool → Type 0
+  Asked n i found = any p (upto n) ≡ (found || anyAhead i n)
+
+  pub asked-next : (n i : ℕ) (found : Bool) → i < n → Asked n i found → Asked n (i + 1) (found || p i)
+  asked-next n i true l e = e
+  asked-next n i false l e = cases (p i) (λ h. rw h (e ∙ any-hit i n l h)) (λ h. rw h (e ∙ any-miss i n l h))
+
+  pub asked-end : (n i : ℕ) (found : Bool) → n ≤ i → Asked n i found → found ≡ any p (upto n)
+  asked-end n i true l e = sym e
+  asked-end n i false l e = sym (e ∙ any-end i n l)

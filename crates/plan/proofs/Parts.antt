@@ -10,11 +10,10 @@ use lib.Count.{ones}
 use lib.ListN.{length, getD, drop, length-drop}
 use lib.Seq.{length-take-le, getD-take, getD-drop}
 use borrow.Author.Tests.{eqb-true, eqb-false, eq-eqb, ne-eqb, not-true, not-false}
-use Rattle.lists.specs.Range.{headOr, lowestFrom}
+use Rattle.lists.specs.Range.{lowestFrom}
 use Rattle.lists.proofs.Split.{below-or-not}
 use Rattle.lists.proofs.Sought.{sought-start, sought-end}
-use Rattle.lists.proofs.Found.{ahead-past, found, missed, sought-le}
-use Rattle.lists.proofs.Kept.{ahead}
+use Rattle.lists.proofs.Found.{found, missed, sought-past, sought-le}
 use Rattle.plan.specs.Rows.{taskWord, vcpuOf, colourSet, cost, colours-shared, taskRows}
 use Rattle.plan.specs.Part.{isRowOf, partStart, partEnd, rowsFrom, partFrom, partOf}
 
@@ -43,9 +42,7 @@ module _ (tasks : List ℕ) (v : ℕ) where
 
   -- a search from a row that no row of the VCPU stands before finds the first
   pub start-from : (i : ℕ) → i ≤ taskRows tasks → ((m : ℕ) → m < i → isRowOf tasks v m ≡ false) → lowestFrom own i (taskRows tasks) ≡ partStart tasks v
-  unfolding lowestFrom ahead
-  start-from i h none =
-      sym (start-sought ∙ ap (headOr (taskRows tasks)) (ahead-past own 0 i (taskRows tasks) (omega arith) h (λ m low high. none m high)))
+  start-from i h none = sym (start-sought ∙ sought-past own 0 i (taskRows tasks) (omega arith) h (λ m low high. none m high))
 
   pub part-from : (i : ℕ) → lowestFrom own i (taskRows tasks) ≡ partStart tasks v → partFrom tasks i v ≡ partOf tasks v
   unfolding partFrom partOf partEnd rowsFrom

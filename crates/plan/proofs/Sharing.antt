@@ -1,17 +1,15 @@
 -- What spares the tests 18 and 20 some of their work: a cost is held against the one before alone, and a row whose lower rows share no colour
 -- need only be held against those after it.
-use Prim.Native.Nat.{ℕ, zero, suc, _+_, _<_, _≤_}
-use native.Mathlib.Nat.{le-refl}
-use native.Mathlib.Numerals.{add-one}
+use Prim.Native.Nat.{ℕ, _+_, _<_, _≤_}
 use native.Mathlib.Omega.{arith}
 use mathlib.Core.Bool.{Bool, true, false, not, _&&_, _||_}
 use mathlib.Core.List.{List}
 use mathlib.Core.Path.{_≡_, refl, sym, ap, _∙_}
 use lib.Bits.{bitAnd, and-comm}
 use lib.Dec.{eqb, ltb}
-use borrow.Author.Tests.{lt-ltb, le-ltb, ltb-true, ltb-false, eq-eqb, ne-eqb, eqb-true, eqb-false}
+use borrow.Author.Tests.{lt-ltb, le-ltb, ltb-false, eq-eqb, ne-eqb, eqb-true, eqb-false}
 use Rattle.lists.proofs.Split.{cases, below-or-not}
-use Rattle.lists.proofs.Sought.{anyAhead, any-start, any-miss}
+use Rattle.lists.proofs.Sought.{anyAhead, any-start, any-past}
 use Rattle.lists.proofs.Found.{any-none}
 use Rattle.board.specs.Tests.{shares}
 use Rattle.plan.specs.Rows.{vcpuOf, colourSet, taskRows}
@@ -35,14 +33,6 @@ cost-test k before prev cost one high first later =
     or-false : (b : Bool) → (b || false) ≡ b
     or-false true = refl
     or-false false = refl
-
--- nothing below m passes, so that it is asked from m on
-any-past : (p : ℕ → Bool) (n m : ℕ) → m ≤ n → ((k : ℕ) → k < m → p k ≡ false) → anyAhead p 0 n ≡ anyAhead p m n
-any-past p n zero h none = refl
-any-past p n (suc m) h none =
-    any-past p n m (omega arith) (λ k l. none k (omega arith))
-    ∙ any-miss p m n h (none m (le-refl (suc m)))
-    ∙ ap (λ (i : ℕ). anyAhead p i n) (add-one m)
 
 module _ (tasks : List ℕ) where
   abbrev pub sharing : ℕ → ℕ → Bool

@@ -9,36 +9,15 @@ use lib.Count.{ones}
 use lib.ListN.{length, take, drop, length-append, length-drop, List·getD-append}
 use lib.Seq.{take-all, take-append-le, drop-append-le, take-append-add}
 use borrow.Author.Tests.{eq-eqb}
-use Rattle.lists.specs.Range.{lowestFrom, headOr}
+use Rattle.lists.specs.Range.{lowestFrom}
 use Rattle.lists.proofs.Split.{below-or-not}
-use Rattle.lists.proofs.Kept.{ahead}
-use Rattle.lists.proofs.Sought.{sought-start, sought-hit}
-use Rattle.lists.proofs.Found.{found, missed, ahead-past}
+use Rattle.lists.proofs.Sought.{sought-start}
+use Rattle.lists.proofs.Found.{found, missed, sought-same, sought-beyond}
 use Rattle.plan.specs.Rows.{vcpuOf, colourSet, taskRows}
 use Rattle.plan.specs.Part.{isRowOf, partStart, partEnd, partOf}
 use Rattle.plan.proofs.Parts.{start-le, part-length, part-word}
 use Rattle.times.specs.Times.{taskTime}
 use Rattle.times.proofs.Planner.{later-tasks-change-nothing}
-
--- what is found is the one number that passes with none before it
-sought-is : (p : ℕ → Bool) (i n s : ℕ) → i ≤ s → s < n → p s ≡ true → ((m : ℕ) → i ≤ m → m < s → p m ≡ false) → lowestFrom p i n ≡ s
-unfolding lowestFrom ahead
-sought-is p i n s l h e none = ap (headOr n) (ahead-past p i s n l (omega arith) none) ∙ sought-hit p s n h e
-
--- a test that agrees with another below n finds the same there, in a longer range
-sought-same : (p q : ℕ → Bool) (i n m : ℕ) → n ≤ m → ((k : ℕ) → k < n → q k ≡ p k) → lowestFrom p i n < n → lowestFrom q i m ≡ lowestFrom p i n
-sought-same p q i n m le same h =
-    let f = found p i n h in
-    sought-is q i m (lowestFrom p i n) (f .low) (omega arith) (same _ h ∙ f .passes) (λ k a b. same k (omega arith) ∙ f .before k a b)
-
--- and where that finds nothing below n, it finds nothing there either
-sought-beyond : (p q : ℕ → Bool) (i n m : ℕ) → n ≤ m → ((k : ℕ) → k < n → q k ≡ p k) → n ≤ lowestFrom p i n → n ≤ lowestFrom q i m
-sought-beyond p q i n m le same h =
-    below-or-not (lowestFrom q i m) n
-    (λ l.
-    let f = found q i m (omega arith) in
-    absurd (true≢false (sym (f .passes) ∙ same _ l ∙ missed p i n h _ (f .low) l)))
-    (λ l. l)
 
 module _ (tasks more : List ℕ) (whole : length tasks ≡ 20 * taskRows tasks) (j : ℕ) (row : j < taskRows tasks) where
   abbrev v : ℕ

@@ -3,9 +3,8 @@ use Prim.Native.Nat.{ℕ, _+_, _-_, _≤_}
 use native.Mathlib.Omega.{arith}
 use mathlib.Core.Bool.{Bool}
 use mathlib.Core.List.{List}
-use Rattle.lists.proofs.Sought.{any-start}
+use Rattle.lists.proofs.Sought.{any-start, Asked, asked-next, asked-end}
 use Rattle.frames.specs.Scan.{wordAt}
-use Rattle.frames.proofs.Blocks.{Asked, asked-next, asked-end}
 use Rattle.frames.proofs.scan.word_within.Statement.{statement}
 use Rattle.frames.proofs.scan.word_within.Tie as tie
 
