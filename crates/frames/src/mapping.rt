@@ -77,7 +77,7 @@ pub fn fault(board: Board, table: &mut [u16], domain: u32, page: u32) -> Faulted
         return Faulted::Refused(refusal);
     }
     let word = word_for(domain, page);
-    let set = active_set(board, domain) as usize;
+    let set = active_set(board, domain);
     let first = word_or_free(table, word, board.colours as usize, set);
     if first == table.len() {
         return Faulted::Refused(Refusal { number: 12, row: 0 });

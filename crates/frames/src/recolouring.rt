@@ -100,15 +100,14 @@ pub fn recolour(
         return refused(board, Refusal { number: 9, row: 0 });
     }
     let colours = board.colours as usize;
-    let bits = set as usize;
-    let count = count_strays(table, domain, colours, bits);
-    if count_free(table, colours, bits) < count {
+    let count = count_strays(table, domain, colours, set);
+    if count_free(table, colours, set) < count {
         return refused(board, Refusal { number: 12, row: 0 });
     }
     if moves.len() < 3 * count {
         return refused(board, Refusal { number: 13, row: 0 });
     }
-    move_all(table, moves, domain, colours, bits, count);
+    move_all(table, moves, domain, colours, set, count);
     Recoloured {
         board: with_active(board, domain, set),
         answer: Moved::Count(count as u32),

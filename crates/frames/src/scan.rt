@@ -21,15 +21,15 @@ pub(crate) fn word_for(domain: u32, page: u32) -> u16
 
 // Whether the colour of a frame is in a set. The number of colours is a power of two, so that a mask
 // gives the remainder.
-fn in_set(colours: usize, set: usize, frame: usize) -> bool
+fn in_set(colours: usize, set: u32, frame: usize) -> bool
     requires { ⌜ isColourCount colours ≡ true ⌝ }
     ensures { λ r. ⌜ r ≡ has set (colourOf colours frame) ⌝ }
 {
-    (set >> (frame & (colours - 1))) % 2 == 1
+    (set >> ((frame & (colours - 1)) as u32)) % 2 == 1
 }
 
 // Whether a frame with this word is free and has a colour in a set.
-fn is_free_in(word: u16, colours: usize, set: usize, frame: usize) -> bool
+fn is_free_in(word: u16, colours: usize, set: u32, frame: usize) -> bool
     requires { ⌜ isColourCount colours ≡ true ⌝ }
     ensures { λ r. ⌜ r ≡ (eqb word 0 && has set (colourOf colours frame)) ⌝ }
 {
@@ -37,7 +37,7 @@ fn is_free_in(word: u16, colours: usize, set: usize, frame: usize) -> bool
 }
 
 // Whether a frame with this word is held, with a word from `first` to `last`, outside a set.
-fn is_stray(word: u16, first: u16, last: u16, colours: usize, set: usize, frame: usize) -> bool
+fn is_stray(word: u16, first: u16, last: u16, colours: usize, set: u32, frame: usize) -> bool
     requires { ⌜ isColourCount colours ≡ true ⌝ }
     ensures { λ r. ⌜ r ≡ ((leb first word && leb word last) && not (has set (colourOf colours frame))) ⌝ }
 {
@@ -91,7 +91,7 @@ pub(crate) fn next_word(table: &[u16], start: usize, word: u16) -> usize
 }
 
 // The lowest frame that has a word, or is free with a colour in a set.
-pub(crate) fn word_or_free(table: &[u16], word: u16, colours: usize, set: usize) -> usize
+pub(crate) fn word_or_free(table: &[u16], word: u16, colours: usize, set: u32) -> usize
     requires { ⌜ isColourCount colours ≡ true ⌝ }
     ensures { λ r. ⌜ r ≡ lowest (stop (now (table .entry)) word colours set) (length (now (table .entry))) ⌝ }
 {
@@ -109,7 +109,7 @@ pub(crate) fn word_or_free(table: &[u16], word: u16, colours: usize, set: usize)
 }
 
 // The lowest free frame from one on with a colour in a set.
-pub(crate) fn next_free(table: &[u16], start: usize, colours: usize, set: usize) -> usize
+pub(crate) fn next_free(table: &[u16], start: usize, colours: usize, set: u32) -> usize
     requires { ⌜ (isColourCount colours ≡ true) × (start ≤ length (now table)) ⌝ }
     ensures { λ r. ⌜ r ≡ lowestFrom (freeIn (now (table .entry)) colours set) start (length (now (table .entry))) ⌝ }
 {
@@ -129,7 +129,7 @@ pub(crate) fn next_stray(
     start: usize,
     domain: u32,
     colours: usize,
-    set: usize,
+    set: u32,
 ) -> usize
     requires { ⌜ (isColourCount colours ≡ true) × (start ≤ length (now table)) × (domain < 8) ⌝ }
     ensures { λ r. ⌜ r ≡ lowestFrom (strayOf (now (table .entry)) domain colours set) start (length (now (table .entry))) ⌝ }
@@ -147,7 +147,7 @@ pub(crate) fn next_stray(
 }
 
 // How many free frames have a colour in a set.
-pub(crate) fn count_free(table: &[u16], colours: usize, set: usize) -> usize
+pub(crate) fn count_free(table: &[u16], colours: usize, set: u32) -> usize
     requires { ⌜ isColourCount colours ≡ true ⌝ }
     ensures { λ r. ⌜ r ≡ length (keep (freeIn (now (table .entry)) colours set) (upto (length (now (table .entry))))) ⌝ }
 {
@@ -163,7 +163,7 @@ pub(crate) fn count_free(table: &[u16], colours: usize, set: usize) -> usize
 }
 
 // How many frames a domain holds outside a set.
-pub(crate) fn count_strays(table: &[u16], domain: u32, colours: usize, set: usize) -> usize
+pub(crate) fn count_strays(table: &[u16], domain: u32, colours: usize, set: u32) -> usize
     requires { ⌜ (isColourCount colours ≡ true) × (domain < 8) ⌝ }
     ensures { λ r. ⌜ r ≡ length (keep (strayOf (now (table .entry)) domain colours set) (upto (length (now (table .entry))))) ⌝ }
 {

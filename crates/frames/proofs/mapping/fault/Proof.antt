@@ -110,9 +110,6 @@ word-for-requires c κs = let g = page-accepted _ _ _ _ (passes-10 c) in (omega 
 active-set-requires : tie.Need-active-set-requires
 active-set-requires c κs = omega (arith, page-accepted _ _ _ _ (passes-10 (c .before)))
 
-cast-set : tie.Need-cast-set
-cast-set c = search needs
-
 cast-word-or-free : tie.Need-cast-word-or-free
 cast-word-or-free c = search needs
 
@@ -134,8 +131,8 @@ mul-if2 c = omega (arith, below c)
 slice-read-if2 : tie.Need-slice-read-if2
 slice-read-if2 c = below (c .before)
 
-cast-t19 : tie.Need-cast-t19
-cast-t19 c = omega (arith, below (c .before .before), page-accepted _ _ _ _ (passes-10 (told (c .before .before .before))))
+cast-t18 : tie.Need-cast-t18
+cast-t18 c = omega (arith, below (c .before .before), page-accepted _ _ _ _ (passes-10 (told (c .before .before .before))))
 
 same-length-2 : tie.Need-same-length-2
 same-length-2 c = search needs
@@ -152,8 +149,8 @@ add-next-word c = omega (arith, below (c .before .before .before))
 next-word-requires : tie.Need-next-word-requires
 next-word-requires c κs = omega (arith, below (c .before .before .before))
 
-cast-t22 : tie.Need-cast-t22
-cast-t22 c = omega (arith, page-accepted _ _ _ _ (passes-10 (told (c .before .before .before .before .before .before))))
+cast-t21 : tie.Need-cast-t21
+cast-t21 c = omega (arith, page-accepted _ _ _ _ (passes-10 (told (c .before .before .before .before .before .before))))
 
 same-length-3 : tie.Need-same-length-3
 same-length-3 c = search needs
@@ -172,8 +169,8 @@ mul-table c = omega (arith, below (c .before .before .before .before .before))
 slice-write-table : tie.Need-slice-write-table
 slice-write-table c = below (c .before .before .before .before .before)
 
-cast-t12 : tie.Need-cast-t12
-cast-t12 c = omega (arith, below (c .before .before .before .before .before), page-accepted _ _ _ _ (passes-10 (told (c .before .before .before .before .before .before))))
+cast-t23 : tie.Need-cast-t23
+cast-t23 c = omega (arith, below (c .before .before .before .before .before), page-accepted _ _ _ _ (passes-10 (told (c .before .before .before .before .before .before))))
 
 same-length-4 : tie.Need-same-length-4
 same-length-4 c = search needs
@@ -196,23 +193,22 @@ fault-spec =
     enum-told
     word-for-requires
     active-set-requires
-    cast-set
     cast-word-or-free
     word-or-free-requires
     same-length
     returns-2
     mul-if2
     slice-read-if2
-    cast-t19
+    cast-t18
     same-length-2
     returns-3
     add-next-word
     next-word-requires
-    cast-t22
+    cast-t21
     same-length-3
     returns-4
     mul-table
     slice-write-table
-    cast-t12
+    cast-t23
     same-length-4
     returns-5)

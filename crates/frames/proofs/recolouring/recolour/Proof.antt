@@ -183,8 +183,8 @@ move-all-requires c κs = movable (c .before .before)
 with-active-requires : tie.Need-with-active-requires
 with-active-requires c κs = omega (arith, movable (c .before .before .before .before .before .before .before) .domain)
 
-cast-t31 : tie.Need-cast-t31
-cast-t31 c = omega (arith, few (counted (ready c .before .before)))
+cast-t30 : tie.Need-cast-t30
+cast-t30 c = omega (arith, few (counted (ready c .before .before)))
 
 same-length-3 : tie.Need-same-length-3
 same-length-3 c = search needs
@@ -222,7 +222,7 @@ recolour-spec =
     returns-4
     move-all-requires
     with-active-requires
-    cast-t31
+    cast-t30
     same-length-3
     same-length-4
     returns-5)

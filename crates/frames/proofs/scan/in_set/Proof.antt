@@ -9,6 +9,9 @@ use Rattle.frames.proofs.scan.in_set.Tie as tie
 sub-result : tie.Need-sub-result
 sub-result c = omega (arith, count-range _ (c .pre))
 
+cast-result : tie.Need-cast-result
+cast-result c = rw (colour-mask _ _ (c .pre)) (omega (arith, colour-small _ (c .args .frame) (c .pre)))
+
 shr-result : tie.Need-shr-result
 shr-result c = rw (colour-mask _ _ (c .pre)) (omega (arith, colour-small _ (c .args .frame) (c .pre)))
 
@@ -17,4 +20,4 @@ unfolding has
 returns c = rw (colour-mask _ _ (c .pre))
 
 pub in-set-spec : {M : Type 1} → statement M
-in-set-spec = tie.close (tie.spec sub-result shr-result returns)
+in-set-spec = tie.close (tie.spec sub-result cast-result shr-result returns)
