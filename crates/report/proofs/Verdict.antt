@@ -14,7 +14,7 @@ use Rattle.refusal.proofs.Replies.{answers-passed, passed-first}
 use Rattle.admission.specs.Admission.{admissionReply, vcpuTimes, taskTimes, timesAfter}
 use Rattle.admission.proofs.Written.{length-vcpu-times, length-task-times}
 use Rattle.report.specs.Input.{domainCount, vcpuCount, taskCount, planWords, overLimit, boardOf, reloadOf, vcpusOf, tasksOf}
-use Rattle.report.specs.Text.{line, refusedName, admittedLines, over}
+use Rattle.report.specs.Text.{line, refusedName, admittedLines}
 use Rattle.report.specs.Report.{extentReply, notAPlan, verdict, wordsTaken, textOf}
 use Rattle.report.proofs.Words.{length-words}
 

@@ -1,6 +1,6 @@
 -- `admit::read_on` is safe and ends: it reads a bounded number of times.
 use Prim.Native.Nat.{_≤_, _-_}
-use mathlib.Core.Path.{_≡_, sym, _∙_}
+use mathlib.Core.Path.{_≡_}
 use lib.ListN.{length}
 use borrow.Author.Needs.{needs}
 use Rattle.admit.proofs.read_on.Statement.{statement}

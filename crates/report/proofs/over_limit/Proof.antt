@@ -1,6 +1,5 @@
 -- `report::over_limit` meets its contract, test by test.
-use mathlib.Core.Bool.{Bool, true, false, _||_}
-use mathlib.Core.Path.{_≡_, refl, sym}
+use mathlib.Core.Path.{refl}
 use borrow.Author.Tests.{lt-ltb, le-ltb}
 use Rattle.report.proofs.over_limit.Statement.{statement}
 use Rattle.report.proofs.over_limit.Tie as tie

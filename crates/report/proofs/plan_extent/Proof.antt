@@ -1,9 +1,8 @@
 -- `report::plan_extent` meets its contract: the counts are those of the input, and the limits keep every sum small.
 use Prim.Native.Nat.{ℕ, _+_, _*_, _≤_}
 use native.Mathlib.Omega.{arith}
-use mathlib.Core.Bool.{true, false}
 use mathlib.Core.List.{List}
-use mathlib.Core.Path.{_≡_, sym, ap, _∙_}
+use mathlib.Core.Path.{_≡_, sym, _∙_}
 use borrow.Author.Needs.{needs}
 use Rattle.report.specs.Input.{planWords, overLimit}
 use Rattle.report.proofs.Verdict.{limits, extent-over, extent-short, extent-whole}

@@ -1,7 +1,7 @@
 -- `report::report` meets its contract: refusal 1 for an input that is no plan, and otherwise what the plan gets.
 use Prim.Native.Nat.{ℕ}
 use mathlib.Core.List.{List}
-use mathlib.Core.Path.{_≡_, sym, ap, _∙_}
+use mathlib.Core.Path.{sym, ap, _∙_}
 use lib.ListN.{length}
 use Rattle.report.specs.Text.{over}
 use Rattle.report.proofs.Verdict.{none-taken, some-taken, refused-1}

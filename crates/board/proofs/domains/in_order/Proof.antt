@@ -1,8 +1,7 @@
 -- `board::domains::in_order` meets its contract. The invariant: no domain below `d` is at fault, and `seen` is the union of their grants.
-use Prim.Native.Nat.{ℕ, _-_, _≤_}
+use Prim.Native.Nat.{_-_, _≤_}
 use native.Mathlib.Omega.{arith}
 use mathlib.Core.Bool.{true, false, false≢true}
-use mathlib.Core.Logic.{⊎-elim}
 use mathlib.Core.Path.{_≡_, sym, _∙_}
 use borrow.Author.Tests.{ne-eqb, eqb-true, not-false}
 use borrow.Author.Needs.{needs}
@@ -10,9 +9,6 @@ use Rattle.board.specs.Tests.{grant, activeSet, emptyOrOutside}
 use Rattle.board.proofs.InOrder.{Passed, passed-none, passed-next, in-order-reply}
 use Rattle.board.proofs.domains.in_order.Statement.{statement}
 use Rattle.board.proofs.domains.in_order.Tie as tie
-use Rattle.board.proofs.domains.in_order.Reads as reads
-use Rattle.board.proofs.domains.in_order.Lts as lts
-use Rattle.colours.proofs.is_colour_set.Reads as is-colour-set-reads
 
 abbrev Inv-loop : tie.InvT-loop
 Inv-loop board grants active seen₀ d₀ seen d = (d ≤ board .domains) × Passed board d seen

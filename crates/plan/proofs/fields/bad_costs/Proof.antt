@@ -1,5 +1,5 @@
 -- `plan::fields::bad_costs` meets its contract. The invariant: whether a cost is at fault is asked from `k` on, and `before` is the cost before or the limit.
-use Prim.Native.Nat.{ℕ, _+_, _-_, _<_, _≤_}
+use Prim.Native.Nat.{_+_, _-_, _<_, _≤_}
 use native.Mathlib.Nat.{not-suc-le-zero, le-of-suc-le-suc}
 use native.Mathlib.Omega.{arith}
 use mathlib.Core.Bool.{false}

@@ -1,52 +1,39 @@
+-- `report::input::count_rows` meets its contract: each count says where the next one stands.
 use Rattle.report.specs.Input.{domainCount, vcpuCount, taskCount}
 use borrow.Author.Needs.{needs}
 use Rattle.report.proofs.input.count_rows.Statement.{statement}
 use Rattle.report.proofs.input.count_rows.Tie as tie
-use Rattle.report.proofs.input.count_rows.Reads as reads
-use Rattle.report.proofs.input.count_rows.Lts as lts
-use Rattle.report.proofs.input.word.Reads as word-reads
 
--- src/input.rt:47:19
 word-requires : tie.Need-word-requires
 word-requires c κs = search needs
 
--- src/input.rt:47:19
 cast-domains : tie.Need-cast-domains
 cast-domains c = search needs
 
--- src/input.rt:48:29
 add-word : tie.Need-add-word
 add-word c = search needs
 
--- src/input.rt:48:17
 word-requires-2 : tie.Need-word-requires-2
 word-requires-2 c κs = search needs
 
--- src/input.rt:48:17
 cast-vcpus : tie.Need-cast-vcpus
 cast-vcpus c = search needs
 
--- src/input.rt:49:29
 add-word-2 : tie.Need-add-word-2
 add-word-2 c = search needs
 
--- src/input.rt:49:43
 mul-word : tie.Need-mul-word
 mul-word c = search needs
 
--- src/input.rt:49:29
 add-word-3 : tie.Need-add-word-3
 add-word-3 c = search needs
 
--- src/input.rt:49:17
 word-requires-3 : tie.Need-word-requires-3
 word-requires-3 c κs = search needs
 
--- src/input.rt:49:17
 cast-tasks : tie.Need-cast-tasks
 cast-tasks c = search needs
 
--- src/input.rt:44:1
 returns : tie.Need-returns
 unfolding domainCount vcpuCount taskCount
 returns c =

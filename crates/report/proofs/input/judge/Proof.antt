@@ -1,9 +1,8 @@
 -- `report::input::judge` meets its contract: the lists read are the VCPUs and tasks of the input.
-use Prim.Native.Nat.{ℕ, _+_, _*_, _≤_}
+use Prim.Native.Nat.{_*_, _≤_}
 use native.Mathlib.Omega.{arith}
-use mathlib.Core.List.{List}
-use mathlib.Core.Path.{_≡_, refl, sym, _∙_}
-use lib.ListN.{length, take}
+use mathlib.Core.Path.{_≡_, sym, _∙_}
+use lib.ListN.{length}
 use lib.Seq.{length-take-le}
 use Rattle.report.specs.Input.{reloadOf, vcpusOf, tasksOf}
 use Rattle.report.proofs.Words.{reload-read, vcpus-read, tasks-read, same-reply, same-times}

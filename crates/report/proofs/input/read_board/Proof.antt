@@ -1,9 +1,9 @@
 -- `report::input::read_board` meets its contract: the grants stand in front of zeros.
 use Prim.Native.Nat.{ℕ}
 use native.Mathlib.Omega.{arith}
-use mathlib.Core.List.{List, _++_}
-use mathlib.Core.Path.{_≡_, sym, ap, _∙_}
-use lib.ListN.{length, take, drop}
+use mathlib.Core.List.{List}
+use mathlib.Core.Path.{_≡_, sym, ap}
+use lib.ListN.{length, take}
 use lib.Seq.{length-take-le}
 use Rattle.report.specs.Input.{grants, boardOf}
 use Rattle.report.proofs.Words.{grants-read}

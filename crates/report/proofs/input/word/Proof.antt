@@ -1,69 +1,52 @@
+-- `report::input::word` meets its contract: its four bytes, the lowest first.
 use mathlib.Core.Path.{refl}
 use Rattle.report.specs.Input.{word}
 use borrow.Author.Needs.{needs}
 use Rattle.report.proofs.input.word.Statement.{statement}
 use Rattle.report.proofs.input.word.Tie as tie
-use Rattle.report.proofs.input.word.Reads as reads
-use Rattle.report.proofs.input.word.Lts as lts
-use Rattle.report.proofs.input.byte.Reads as byte-reads
 
--- src/input.rt:37:13
 mul-i : tie.Need-mul-i
 mul-i c = search needs
 
--- src/input.rt:38:5
 byte-requires : tie.Need-byte-requires
 byte-requires c κs = search needs
 
--- src/input.rt:39:29
 add-byte : tie.Need-add-byte
 add-byte c = search needs
 
--- src/input.rt:39:17
 byte-requires-2 : tie.Need-byte-requires-2
 byte-requires-2 c κs = search needs
 
--- src/input.rt:39:11
 mul-result : tie.Need-mul-result
 mul-result c = search needs
 
--- src/input.rt:38:5
 add-result : tie.Need-add-result
 add-result c = search needs
 
--- src/input.rt:40:31
 add-byte-2 : tie.Need-add-byte-2
 add-byte-2 c = search needs
 
--- src/input.rt:40:19
 byte-requires-3 : tie.Need-byte-requires-3
 byte-requires-3 c κs = search needs
 
--- src/input.rt:40:11
 mul-result-2 : tie.Need-mul-result-2
 mul-result-2 c = search needs
 
--- src/input.rt:38:5
 add-result-2 : tie.Need-add-result-2
 add-result-2 c = search needs
 
--- src/input.rt:41:34
 add-byte-3 : tie.Need-add-byte-3
 add-byte-3 c = search needs
 
--- src/input.rt:41:22
 byte-requires-4 : tie.Need-byte-requires-4
 byte-requires-4 c κs = search needs
 
--- src/input.rt:41:11
 mul-result-3 : tie.Need-mul-result-3
 mul-result-3 c = search needs
 
--- src/input.rt:38:5
 add-result-3 : tie.Need-add-result-3
 add-result-3 c = search needs
 
--- src/input.rt:33:1
 returns : tie.Need-returns
 unfolding word
 returns c = rw (← c .before .before .before .byte .ensures .0, ← c .before .before .byte2 .ensures .0, ← c .before .byte3 .ensures .0, ← c .byte4 .ensures .0) refl

@@ -1,5 +1,5 @@
 -- `report::text::write_admitted` meets its contract: the lines of VCPUs, of tasks, and the last line.
-use Prim.Native.Nat.{ℕ, _+_, _-_, _≤_}
+use Prim.Native.Nat.{ℕ, _+_, _-_}
 use native.Mathlib.Omega.{arith}
 use mathlib.Core.List.{List}
 use mathlib.Core.Path.{_≡_, sym, ap, _∙_}

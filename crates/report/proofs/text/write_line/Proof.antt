@@ -2,11 +2,10 @@
 use Prim.Native.Nat.{ℕ, _+_, _≤_}
 use native.Mathlib.Omega.{arith}
 use mathlib.Core.List.{List}
-use mathlib.Core.Path.{_≡_, refl, sym, ap, _∙_}
+use mathlib.Core.Path.{_≡_, ap, _∙_}
 use lib.ListN.{length, set, length-set}
 use lib.Seq.{sets}
-use borrow.Author.Needs.{needs}
-use Rattle.report.specs.Text.{decimal, line}
+use Rattle.report.specs.Text.{decimal}
 use Rattle.report.proofs.Decimal.{decimal-length}
 use Rattle.report.proofs.Lines.{line-size, line-written}
 use Rattle.report.proofs.text.write_line.Statement.{statement}
