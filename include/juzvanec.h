@@ -168,7 +168,7 @@ uint32_t juzvanec_admit_plan(const uint32_t *board, uint32_t reload, const uint3
  * The program `admit`: reads the plan in the input, as little-endian words of 32 bits, and writes what the
  * program prints to the text of JUZVANEC_TEXT_BYTES bytes. *length is the text's length in bytes, on a
  * refusal too, and the bytes past it do not change; *words is how many words the plan took, 0 where the
- * refusal is 1. Refusals 1 to 7, 15 to 22.
+ * refusal is 1. Refusals 1 to 6, 15 to 22.
  */
 uint32_t juzvanec_admit(const uint8_t *input, size_t input_bytes, uint8_t *text, uint32_t *length,
                         uint32_t *words, uint32_t *row);

@@ -287,7 +287,7 @@ pub fn admit_plan(
     reply(number, row, ())
 }
 
-/// The program `admit`, from the bytes that it reads to the text that it prints. Refusals 1 to 7, 15 to
+/// The program `admit`, from the bytes that it reads to the text that it prints. Refusals 1 to 6, 15 to
 /// 22, in the verdict.
 ///
 /// ```
