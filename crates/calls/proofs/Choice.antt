@@ -1,36 +1,57 @@
 -- The choice of free frames, by three laws: each is free, each has a colour in the set, and the choice depends on the frames with a colour
--- in the set alone. No pointer or other state that domains have in common can meet the third.
+-- in the set alone. No pointer or other state that domains have in common can meet the third. The laws go by the four cases of a frame, free
+-- or not, inside the set or not, and not by the words of the definition, so that another wording of the same choice meets them too.
 use Prim.Native.Nat.{ℕ, _<_}
-use mathlib.Core.Bool.{true, _&&_, and-false}
+use mathlib.Core.Bool.{true, false, and-true, and-false, true≢false}
 use mathlib.Core.Path.{_≡_, sym, ap, _∙_}
 use lib.Dec.{eqb}
 use borrow.Author.Tests.{eqb-true}
-use Rattle.lists.proofs.Split.{cases, and-both}
+use Rattle.lists.specs.Range.{upto, keep}
+use Rattle.lists.proofs.Split.{cases}
 use Rattle.lists.proofs.Members.{Each}
 use Rattle.lists.proofs.Filter.{each-map, kept, same-kept}
-use Rattle.calls.specs.Table.{State, word, inSet, framesWith, choices}
+use Rattle.calls.specs.Table.{State, word, inSet, framesWith, isChoice, choices}
 
 pub record Chosen (s : State) (c f : ℕ) : Type 0 where
   pub below : f < s .board .frames
   pub free : word (s .table) f ≡ 0
   pub inside : inSet (s .board) c f ≡ true
 
+module _ (s : State) (c f : ℕ) where
+  held-is-none : eqb (word (s .table) f) 0 ≡ false → isChoice s c f ≡ false
+  unfolding isChoice
+  held-is-none e = simp (e, and-true, and-false)
+
+  outside-is-none : inSet (s .board) c f ≡ false → isChoice s c f ≡ false
+  unfolding isChoice
+  outside-is-none e = simp (e, and-true, and-false)
+
+  is-chosen : f < s .board .frames → isChoice s c f ≡ true → Chosen s c f
+  is-chosen low e =
+      record {
+        below = low;
+        free = cases (eqb (word (s .table) f) 0) (eqb-true (word (s .table) f) 0) (λ k. absurd (true≢false (sym e ∙ held-is-none k)));
+        inside = cases (inSet (s .board) c f) (λ k. k) (λ k. absurd (true≢false (sym e ∙ outside-is-none k)));
+      }
+
 pub chosen : (s : State) (c : ℕ) → Each (Chosen s c) (choices s c)
 unfolding choices framesWith
 chosen s c =
-    each-map (λ (f : ℕ). (f < s .board .frames) × ((eqb (word (s .table) f) 0 && inSet (s .board) c f) ≡ true)) (Chosen s c)
-    (λ f r.
-    let both = and-both (eqb (word (s .table) f) 0) (inSet (s .board) c f) (r .1) in
-    record { below = r .0; free = eqb-true (word (s .table) f) 0 (both .0); inside = both .1 })
-    (choices s c) (kept (λ (f : ℕ). eqb (word (s .table) f) 0 && inSet (s .board) c f) (s .board .frames))
+    each-map (λ (f : ℕ). (f < s .board .frames) × (isChoice s c f ≡ true)) (Chosen s c) (λ f r. is-chosen s c f (r .0) (r .1))
+    (choices s c) (kept (isChoice s c) (s .board .frames))
+
+-- a frame of the set is a choice by its own word alone
+by-its-word : (s r : State) (c f : ℕ) → s .board .colours ≡ r .board .colours → word (s .table) f ≡ word (r .table) f → isChoice s c f ≡ isChoice r c f
+unfolding isChoice
+by-its-word s r c f colours same = rw (colours, same)
 
 pub choice-local : (s r : State) (c : ℕ) → s .board .frames ≡ r .board .frames → s .board .colours ≡ r .board .colours
     → ((f : ℕ) → f < s .board .frames → inSet (s .board) c f ≡ true → word (s .table) f ≡ word (r .table) f) → choices s c ≡ choices r c
 unfolding choices framesWith
 choice-local s r c frames colours same =
-    rw (← frames, ← colours)
-    (same-kept (λ (f : ℕ). eqb (word (s .table) f) 0 && inSet (s .board) c f) (λ (f : ℕ). eqb (word (r .table) f) 0 && inSet (s .board) c f) (s .board .frames)
+    same-kept (isChoice s c) (isChoice r c) (s .board .frames)
     (λ f h.
     cases (inSet (s .board) c f)
-    (λ k. ap (λ (w : ℕ). eqb w 0 && inSet (s .board) c f) (same f h k))
-    (λ k. rw k (and-false (eqb (word (s .table) f) 0) ∙ sym (and-false (eqb (word (r .table) f) 0))))))
+    (λ k. by-its-word s r c f colours (same f h k))
+    (λ k. outside-is-none s c f k ∙ sym (outside-is-none r c f (rw (← colours) k))))
+    ∙ ap (λ (n : ℕ). keep (isChoice r c) (upto n)) frames

@@ -46,9 +46,13 @@ framesWith s p = keep p (upto (s .board .frames))
 unfoldable pub mappedTo : State → ℕ → ℕ → List ℕ
 mappedTo s d p = framesWith s (λ (f : ℕ). eqb (word (s .table) f) (wordOf d p))
 
+-- frame f is free, and its colour is in a set
+unfoldable pub isChoice : State → ℕ → ℕ → Bool
+isChoice s c f = eqb (word (s .table) f) 0 && inSet (s .board) c f
+
 -- the free frames with a colour in a set, in the order in which they are taken
 unfoldable pub choices : State → ℕ → List ℕ
-choices s c = framesWith s (λ (f : ℕ). eqb (word (s .table) f) 0 && inSet (s .board) c f)
+choices s c = framesWith s (isChoice s c)
 
 -- the domain's frames with a colour outside a set
 unfoldable pub strays : State → ℕ → ℕ → List ℕ

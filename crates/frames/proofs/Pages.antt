@@ -15,7 +15,7 @@ use Rattle.lists.proofs.Found.{Found, found, missed, missed-list, none-kept, ah
 use Rattle.refusal.specs.Reply.{Answers, test, unless}
 use Rattle.board.specs.declared.Board.{Board}
 use Rattle.board.specs.Tests.{activeSet}
-use Rattle.calls.specs.Table.{State, stateOf, word, wordOf, framesWith, mappedTo, choices}
+use Rattle.calls.specs.Table.{State, stateOf, word, wordOf, framesWith, mappedTo, isChoice, choices}
 use Rattle.calls.specs.Calls.{Outcome, Mapped, Unmapped, Old, New, Freed, settle, only, written, lookAnswer, look, faultDone, fault, release}
 use Rattle.frames.specs.Checks.{pageReply}
 use Rattle.frames.specs.Scan.{wordAt, freeIn, stop}
@@ -80,7 +80,7 @@ module _ (b : Board) (t : List ℕ) (d p : ℕ) (ok : pageReply b (length t) d p
   free = freeIn t (b .colours) (activeSet b d)
 
   choices-is : choices s (activeSet b d) ≡ keep free (upto n)
-  unfolding choices framesWith
+  unfolding choices isChoice framesWith
   choices-is = rw (page-accepted b n d p ok .0 .sized)
 
   abbrev faulted : List ℕ → List ℕ → Outcome

@@ -11,7 +11,7 @@ use Rattle.refusal.specs.Reply.{Reply, Answers, Refuses, test, unless}
 use Rattle.board.specs.declared.Board.{Board}
 use Rattle.board.specs.Tests.{grant, emptyOrOutside, callReply}
 use Rattle.board.proofs.Accepted.{accepted}
-use Rattle.calls.specs.Table.{State, stateOf, framesWith, choices, strays}
+use Rattle.calls.specs.Table.{State, stateOf, framesWith, isChoice, choices, strays}
 use Rattle.calls.specs.Calls.{Answer, Outcome, Moved, settle, pairUp, moveAll, withActive, recolour}
 use Rattle.calls.specs.Moves.{triples, Listed}
 use Rattle.frames.specs.Scan.{freeIn, strayOf}
@@ -49,7 +49,7 @@ module _ (b : Board) (t : List ℕ) (d c : ℕ) (m : List ℕ) (ok : callReply b
   strays-is = rw (accepted b (length t) d ok .sized)
 
   choices-is : choices s c ≡ free
-  unfolding choices framesWith
+  unfolding choices isChoice framesWith
   choices-is = rw (accepted b (length t) d ok .sized)
 
   abbrev recoloured : List ℕ → List ℕ → Outcome

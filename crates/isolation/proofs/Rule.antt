@@ -3,14 +3,14 @@
 use Prim.Native.Nat.{ℕ, _<_}
 use mathlib.Core.Bool.{Bool, true, false}
 use mathlib.Core.List.{List, [], _∷_, List·Permᴰ, List·Permᴰ·trans, Permᴰ·symm}
-use mathlib.Core.Logic.{inl, inr, ⊎-elim}
+use mathlib.Core.Logic.{_⊎_, inl, inr, ⊎-elim}
 use mathlib.Core.Path.{_≡_, refl, sym, subst, _∙_}
 use lib.Dec.{eqb}
 use lib.ListN.{length}
 use borrow.Author.Tests.{eqb-true, eqb-false, eq-eqb}
 use Rattle.lists.proofs.Split.{cases}
 use Rattle.board.specs.declared.Board.{Board}
-use Rattle.calls.specs.Table.{State}
+use Rattle.calls.specs.Table.{State, word}
 use Rattle.calls.specs.Calls.{Move}
 use Rattle.isolation.specs.DomainRule.{Call, Look, Colours, names, outcome, run, own, Program, Told, told, Same, AllSame, answers, SameColours, SameMap, Accepted, Empty, DomainRule}
 use Rattle.isolation.proofs.Unwinding.{runs, owns, heard, All₂, rule}
@@ -27,13 +27,17 @@ step s c = outcome s c .next
 abbrev names-it : ℕ → Call → Bool
 names-it d c = eqb (names c) d
 
+-- a word of an empty table, whichever of its two is named first
+empty-word : (s : State) → Empty s → (f : ℕ) → f < s .board .frames → (word (s .table) f ≡ 0) ⊎ (word (s .table) f ≡ 65535)
+empty-word s empty f h = ⊎-elim (λ e. search (inl, inr)) (λ e. search (inl, inr)) (empty f h)
+
 -- the start has the invariant
 pub start-good : (s : State) → Accepted s → Empty s → Good (s .board) (s .table) s
 start-good s ok empty =
     good {a = s .board .active} {t = s .table} (record {
       accepted = ok;
-      lawful = λ f h. ⊎-elim inl (λ r. inr (inl r)) (empty f h);
-      unique = λ f g hf hg e some open-to. absurd (⊎-elim some open-to (empty f hf));
+      lawful = λ f h. ⊎-elim inl (λ r. inr (inl r)) (empty-word s empty f h);
+      unique = λ f g hf hg e some open-to. absurd (⊎-elim some open-to (empty-word s empty f hf));
       reserved = λ f h. (λ e. e, λ e. e);
     })
 
@@ -167,6 +171,6 @@ domain-rule P start ok empty d below h k =
     start self h k in
     let h-is = replayed P d start h k h in
     let k-is = replayed P d start h k k in (
-      λ same. rw (h-is, k-is) at (r .0 (λ l m e. to-heard P d start h k l m (same l m (sym (own-is P d l) ∙ e ∙ own-is P d m)))),
-      λ w l m e. from-heard P d start h k l m (r .1 (rw (h-is, k-is) w) l m (own-is P d l ∙ e ∙ sym (own-is P d m))),
+      λ same. rw (h-is, k-is) at (r .0 (λ l m e. to-heard P d start h k l m (same l m (let l-is = own-is P d l in let m-is = own-is P d m in cc)))),
+      λ w l m e. from-heard P d start h k l m (r .1 (rw (h-is, k-is) w) l m (let l-is = own-is P d l in let m-is = own-is P d m in cc)),
     )
