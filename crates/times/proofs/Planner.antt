@@ -13,10 +13,10 @@ use borrow.Author.Tests.{leb-true, leb-false, le-leb}
 use Rattle.lists.proofs.Split.{below-or-not}
 use Rattle.supply.specs.Supply.{supply, Budget}
 use Rattle.supply.proofs.Laws.{supply-budget}
-use Rattle.plan.specs.Rows.{taskWord, taskPeriod, deadline, colourSet, cost, colours-shared}
-use Rattle.times.specs.First.{Time, At, Late, firstTime}
+use Rattle.plan.specs.Rows.{vcpuPeriod, taskWord, taskPeriod, deadline, colourSet, cost, colours-shared}
+use Rattle.times.specs.First.{Time, At, Late, firstTime, NoLater}
 use Rattle.times.specs.Need.{arrivals, need}
-use Rattle.times.specs.Times.{charge, taskNeed, timeInPart}
+use Rattle.times.specs.Times.{charge, taskNeed, timeInPart, vcpuNeed, vcpuTime}
 use Rattle.times.proofs.Search.{first-same, told-first, told-none}
 
 -- a reported time: the supply in it covers the need, and in no earlier microsecond
@@ -33,11 +33,18 @@ pub late-is-late : (p q reload : ℕ) (part : List ℕ) (i : ℕ) → timeInPart
 unfolding timeInPart
 late-is-late p q reload part i e s a b = leb-false _ _ (told-none (λ (x : ℕ). leb (taskNeed reload part i x) (supply p q x)) (deadline part i) e s a b)
 
--- the second time is no later than the first; late is later than any time
-abbrev pub NoLater : Time → Time → Type 0
-NoLater Late b = Unit {0}
-NoLater (At t) (At s) = s ≤ t
-NoLater (At t) Late = ⊥
+-- the same of a VCPU, whose supply in t is t
+pub vcpu-time-is-first : (vcpus : List ℕ) (i t : ℕ) → vcpuTime vcpus i ≡ At t
+    → (1 ≤ t) × (t ≤ vcpuPeriod vcpus i) × (vcpuNeed vcpus i t ≤ t) × ((s : ℕ) → 1 ≤ s → s < t → s < vcpuNeed vcpus i s)
+unfolding vcpuTime
+vcpu-time-is-first vcpus i t e =
+    let r = told-first (λ (s : ℕ). leb (vcpuNeed vcpus i s) s) (vcpuPeriod vcpus i) t e in
+    (r .low, r .high, leb-true _ _ (r .passes), λ s a b. leb-false _ _ (r .before s a b))
+
+pub vcpu-late-is-late : (vcpus : List ℕ) (i : ℕ) → vcpuTime vcpus i ≡ Late
+    → (s : ℕ) → 1 ≤ s → s ≤ vcpuPeriod vcpus i → s < vcpuNeed vcpus i s
+unfolding vcpuTime
+vcpu-late-is-late vcpus i e s a b = leb-false _ _ (told-none (λ (x : ℕ). leb (vcpuNeed vcpus i x) x) (vcpuPeriod vcpus i) e s a b)
 
 -- a test that is passed wherever another is has its first time no later
 no-later : (ok ok′ : ℕ → Bool) (bound : ℕ) → ((s : ℕ) → s ≤ bound → ok s ≡ true → ok′ s ≡ true) → NoLater (firstTime ok bound) (firstTime ok′ bound)

@@ -1,5 +1,5 @@
 -- The first microsecond from 1 to a bound that passes a test, or none: document 01, "Task time" and "VCPU time".
-use Prim.Native.Nat.{ℕ, zero, suc}
+use Prim.Native.Nat.{ℕ, zero, suc, _≤_}
 use mathlib.Core.Bool.{Bool}
 use Rattle.lists.specs.Choice.{if_then_else_}
 
@@ -14,3 +14,9 @@ firstFrom ok (suc n) t = let later = firstFrom ok n (suc t) in if ok t then At t
 
 unfoldable pub firstTime : (ℕ → Bool) → ℕ → Time
 firstTime ok bound = firstFrom ok bound 1
+
+-- the second time is no later than the first; late is later than any time
+abbrev pub NoLater : Time → Time → Type 0
+NoLater Late b = Unit {0}
+NoLater (At t) (At s) = s ≤ t
+NoLater (At t) Late = ⊥

@@ -1,0 +1,3 @@
+-- The proofs of the claims: the examples of the domain rule, and every claim from the theorem of its own crate.
+pub mod Looks
+pub mod Proved

@@ -1,0 +1,75 @@
+-- The examples of the domain rule: its right side by computation, and with the rule its left side.
+use Prim.Native.Nat.{ℕ}
+use native.Mathlib.Omega.{arith}
+use mathlib.Core.Bool.{Bool, false≢true}
+use mathlib.Core.List.{List, [], _∷_, Permᴰ·refl}
+use mathlib.Core.Logic.{_↔_, inl}
+use mathlib.Core.Path.{_≡_, refl, ap}
+use lib.ListN.{getD-replicate}
+use borrow.Author.Tests.{le-ltb}
+use Rattle.lists.specs.Range.{from, keep}
+use Rattle.refusal.specs.Reply.{Reply, each, unless, passes}
+use Rattle.colours.specs.Sets.{isColourSet, has}
+use Rattle.colours.specs.Cache.{isColourCount}
+use Rattle.board.specs.Tests.{sizeTests, domainTests, boardTests}
+use Rattle.calls.specs.Table.{framesWith, mappedTo, isChoice, choices, strays}
+use Rattle.calls.specs.Calls.{Answer, settle, called, look, fault, release, colours, pairUp, moveAll, recolour}
+use Rattle.isolation.specs.DomainRule.{Call, run, own, Program, Accepted, Empty}
+use Rattle.isolation.proofs.Theorems.{the-domain-rule}
+use Rattle.examples.specs.Example.{sameList, numbers}
+use Rattle.examples.specs.Table.{recorder}
+use Rattle.claims.specs.Looks.{LookAlike, ColoursAlike, MapsAlike, faulted, nothing, straight, roundabout, recoloured, LookClaims}
+
+-- the program that writes the triples in the order in which the moves are made
+in-order : Program
+in-order = record { arrange = λ s c ms. ms; each-once = λ s c ms. Permᴰ·refl ms }
+
+accepted : Accepted recorder
+unfolding from keep each passes isColourSet has isColourCount sizeTests domainTests boardTests
+accepted = refl
+
+empty : Empty recorder
+empty f h = inl (getD-replicate 8 f 0 0 h)
+
+-- whether a reply says so, as numbers
+says : List ℕ → Reply Answer → Bool
+says ns r = sameList ns (numbers r)
+
+-- what the replays leave, by computation: page 9 is not unmapped, and the set is not 3; looking up a page of an empty map goes by the page alone, and the two replays that agree leave
+-- one state
+replays :
+    (MapsAlike faulted nothing → ⊥) × ColoursAlike faulted nothing
+    × (ColoursAlike recoloured nothing → ⊥) × MapsAlike recoloured nothing
+    × (run recorder (own 0 straight) ≡ run recorder (own 0 roundabout))
+unfolding
+    from keep unless each isColourSet has isColourCount sizeTests domainTests boardTests framesWith mappedTo isChoice choices strays settle called look fault release colours pairUp moveAll recolour run own says sameList numbers
+replays = (
+  λ same. false≢true (ap (says (2 ∷ [])) (same 9 (omega arith))),
+  refl,
+  λ same. false≢true (ap (says (6 ∷ 3 ∷ [])) same),
+  λ p small. rw (le-ltb 4095 p small),
+  refl,
+)
+
+all-agree : ColoursAlike straight roundabout × MapsAlike straight roundabout
+all-agree = (ap (λ s. colours s 0 .reply) (replays .4), λ p small. ap (λ s. look s 0 p .reply) (replays .4))
+
+-- the rule of two histories, to domain 0
+rule : (P : Program) (h k : List Call) → LookAlike P h k ↔ (ColoursAlike h k × MapsAlike h k)
+rule P = the-domain-rule P recorder accepted empty 0 (omega arith)
+
+pub look-claims : LookClaims
+look-claims =
+    record {
+      some-program = in-order;
+      accepted = accepted;
+      empty = empty;
+      maps-differ = replays .0;
+      colours-agree = replays .1;
+      do-not-look-alike = λ P same. replays .0 (rule P faulted nothing .0 same .1);
+      all-agree = all-agree;
+      look-alike = λ P. rule P straight roundabout .1 all-agree;
+      colours-differ = replays .2;
+      maps-agree = replays .3;
+      told-apart-by-colours = λ P same. replays .2 (rule P recoloured nothing .0 same .0);
+    }

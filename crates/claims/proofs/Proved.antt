@@ -1,0 +1,93 @@
+-- Every claim, from the theorem of its own crate.
+use native.Mathlib.Nat.{le-refl}
+use Rattle.lists.proofs.Members.{member-has}
+use Rattle.colours.proofs.Bits.{place-ones}
+use Rattle.colours.proofs.Drop.{masked, shifted}
+use Rattle.colours.proofs.Theorems as colour
+use Rattle.calls.specs.Table.{choices}
+use Rattle.calls.proofs.Choice.{Chosen, chosen, choice-local}
+use Rattle.isolation.proofs.Theorems as history
+use Rattle.supply.proofs.Laws as law
+use Rattle.times.proofs.Planner as planner
+use Rattle.times.proofs.Added.{added-rows-change-nothing}
+use Rattle.examples.proofs.Claim.{claim}
+use Rattle.juzvanec.proofs.Lent as lent
+use Rattle.claims.specs.Colours.{ColourClaims}
+use Rattle.claims.specs.Histories.{HistoryClaims}
+use Rattle.claims.specs.Times.{SupplyClaims, TimeClaims}
+use Rattle.claims.specs.Interface.{InterfaceClaims}
+use Rattle.claims.specs.Claims.{Claims}
+use Rattle.claims.proofs.Looks.{look-claims}
+
+colour-claims : ColourClaims
+colour-claims =
+    record {
+      cache-size = colour.cache-size;
+      one-set-one-colour = colour.one-set-one-colour;
+      layout-then-bleaching = colour.layout-then-bleaching;
+      bleaching-then-layout = colour.bleaching-then-layout;
+      laid-out-colour = colour.laid-out-colour;
+      different-pages = colour.different-pages;
+      index-back = colour.index-back;
+      page-back = colour.page-back;
+      consecutive-colours = colour.consecutive-colours;
+      aligned-drops-bits = colour.aligned-drops-bits;
+      aligned-reply = colour.aligned-reply;
+      interval-equation = λ n l u b a order. colour.interval-equation n l u order b a;
+      interval-reply = λ n l u b a i order. colour.interval-reply n l u order b a i;
+      place-ones = place-ones;
+      mask-is-remainder = λ w p k word. masked w p word k;
+      shifts-drop-bits = λ w p m k word. shifted w p word m k;
+    }
+
+history-claims : HistoryClaims
+history-claims =
+    record {
+      reserved-stays = history.reserved-stays;
+      one-frame-a-page = history.one-frame-a-page;
+      held-in-grant = history.held-in-grant;
+      no-shared-cache-set = history.no-shared-cache-set;
+      chosen-is-free = λ s c f e. let r = member-has (Chosen s c) f (choices s c) (chosen s c) e in (r .below, r .free, r .inside);
+      choice-local = choice-local;
+    }
+
+supply-claims : SupplyClaims
+supply-claims =
+    record {
+      supply-early = λ p q t b. law.supply-early b t;
+      supply-le = λ p q t b. law.supply-le b t;
+      supply-mono = λ p q t u b. law.supply-mono b t u;
+      supply-step = λ p q t b. law.supply-step b t;
+      supply-budget = law.supply-budget;
+      first-supplies = λ p q x b some. law.le-supply b x _ some (le-refl _);
+      none-before = λ p q x t b. law.first-le b x t;
+    }
+
+time-claims : TimeClaims
+time-claims =
+    record {
+      time-is-first = planner.time-is-first;
+      late-is-late = planner.late-is-late;
+      vcpu-time-is-first = planner.vcpu-time-is-first;
+      vcpu-late-is-late = planner.vcpu-late-is-late;
+      less-is-no-later = planner.less-is-no-later;
+      budget-is-no-later = planner.budget-is-no-later;
+      added-rows-change-nothing = added-rows-change-nothing;
+    }
+
+interface-claims : InterfaceClaims
+interface-claims =
+    record { words-back = lent.words-back; board-back = lent.board-back; one-word = lent.one-word; words-stand = lent.words-stand }
+
+pub claims : Claims
+claims =
+    record {
+      colours = colour-claims;
+      domain-rule = history.the-domain-rule;
+      histories = history-claims;
+      looks = look-claims;
+      supply = supply-claims;
+      times = time-claims;
+      examples-hold = claim;
+      interface = interface-claims;
+    }

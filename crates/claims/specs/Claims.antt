@@ -1,0 +1,28 @@
+-- All claims as one type. `proofs/Proved.antt` has its one member, so that each claim is proved as it is stated here, or the gate fails.
+use mathlib.Core.Bool.{true}
+use mathlib.Core.Path.{_≡_}
+use Rattle.isolation.specs.DomainRule.{DomainRule}
+use Rattle.examples.specs.Example.{allHold}
+use Rattle.examples.specs.Table.{examples}
+use Rattle.claims.specs.Colours.{ColourClaims}
+use Rattle.claims.specs.Histories.{HistoryClaims}
+use Rattle.claims.specs.Looks.{LookClaims}
+use Rattle.claims.specs.Times.{SupplyClaims, TimeClaims}
+use Rattle.claims.specs.Interface.{InterfaceClaims}
+
+pub record Claims : Type 0 where
+  -- Document 01, "Colours of the cache", and document 004, "Address Bleaching".
+  pub colours : ColourClaims
+  -- Demand 3 of document 01, the domain rule: `isolation/specs/DomainRule.antt` states it in one page.
+  pub domain-rule : DomainRule
+  -- What else holds after any history.
+  pub histories : HistoryClaims
+  -- The rule is not vacuous: histories of which its sides are true, and others of which they are false.
+  pub looks : LookClaims
+  -- The supply of a periodic resource, and what a planner relies on.
+  pub supply : SupplyClaims
+  pub times : TimeClaims
+  -- Document 01's examples that are marked m, and the worked examples of document 004: `examples/specs/Table.antt` lists them.
+  pub examples-hold : allHold examples ≡ true
+  -- What the C interface and the program add.
+  pub interface : InterfaceClaims

@@ -1,0 +1,20 @@
+-- What the C interface claims beyond its contracts: the 19 words of a board and the board stand for each other, and an accepted recolouring
+-- changes one word of it.
+use Prim.Native.Nat.{ℕ, _+_}
+use mathlib.Core.List.{List}
+use mathlib.Core.Path.{_≡_}
+use lib.ListN.{length, set}
+use Rattle.board.specs.declared.Board.{Board}
+use Rattle.calls.specs.Calls.{withActive, recolour}
+use Rattle.juzvanec.specs.Words.{boardOf, boardWords, wordsLeft, lent}
+
+pub record InterfaceClaims : Type 0 where
+  -- A board that is written back where it was read changes nothing, and the words of a board stand for it.
+  pub words-back : (ws : List ℕ) → length ws ≡ 19 → boardWords (boardOf ws) ≡ ws
+  pub board-back : (b : Board) → length (b .grants) ≡ 8 → length (b .active) ≡ 8 → boardOf (boardWords b) ≡ b
+  -- A new active set is one new word.
+  pub one-word : (ws : List ℕ) (d c : ℕ) → length ws ≡ 19 → boardWords (withActive (boardOf ws) d c) ≡ set ws (11 + d) c
+  -- The words that a recolouring leaves stand for the board that it leaves.
+  pub words-stand :
+      (ws table moves : List ℕ) (d c : ℕ)
+      → boardOf (wordsLeft (recolour (lent ws table) d c moves) ws) ≡ recolour (lent ws table) d c moves .next .board

@@ -1,0 +1,7 @@
+-- The page of claims: everything that is claimed beyond the contracts of the functions, in five groups, and all of them as one type.
+pub mod Colours
+pub mod Histories
+pub mod Looks
+pub mod Times
+pub mod Interface
+pub mod Claims
