@@ -67,8 +67,9 @@ pub fn look(board: Board, table: &[u16], domain: u32, page: u32) -> Looked
     }
 }
 
-// The frame of the page, old or new. The table is gone over once: up to the first frame that has the
-// word or could be taken, and from there on for the word alone.
+// The frame of the page, old or new. The table is gone over upwards: to the first frame that has the
+// word or could be taken, whose word is then read a second time to tell which of the two it is, and
+// from there on for the word alone, by blocks of sixteen, of which the one that has it is read twice.
 pub fn fault(board: Board, table: &mut [u16], domain: u32, page: u32) -> Faulted
     ensures { λ r. ⌜ paperFaulted r ≡ (faultCall (stateOf board (now (table .entry))) domain page) .reply ⌝ }
     ensures { λ r. ⌜ now (table .exit) ≡ (faultCall (stateOf board (now (table .entry))) domain page) .next .table ⌝ }

@@ -36,7 +36,7 @@ deadline tasks j = taskWord tasks j 2
 abbrev pub colourSet : List ℕ → ℕ → ℕ
 colourSet tasks j = taskWord tasks j 3
 
--- the cost with k colours, k from 1 to 16
+-- the cost with k colours, k from 1 to 16; k of 0 reads the colour set, and k above 16 the words of the next row
 abbrev pub costWith : List ℕ → ℕ → ℕ → ℕ
 costWith tasks j k = taskWord tasks j (3 + k)
 

@@ -33,7 +33,8 @@ pub(crate) fn known_word(tasks: &[u32], row: u32, k: u32) -> u32
     tasks[20 * (row as usize) + k as usize]
 }
 
-// The cost of a task with the colours that it holds.
+// The cost of a task with the colours that it holds. A set without a colour gives 0, which is the word
+// of the set itself; k colours above 16 give word k - 17 of the next row, or 0 beyond the list.
 pub fn cost(tasks: &[u32], row: u32) -> u32
     ensures { λ r. ⌜ r ≡ costOf (now (tasks .entry)) row ⌝ }
 {
