@@ -1,16 +1,17 @@
 /*
- * A loader in small: it asks for the colours of its cache, boots a board with two guests, faults pages in,
- * recolours a guest, and admits the plan of document 01. Each reply is held against what document 01 says,
- * and the exit status is 1 where one differs.
+ * A loader in small: it sees that the archive is its header's, asks for the colours of its cache, boots a
+ * board with two guests, faults pages in, recolours a guest, and admits the plan of document 01. Each reply
+ * is held against what document 01 says, and the exit status is 1 where one differs, 2 with an archive of
+ * another interface.
  */
 #include <stdio.h>
-#include <string.h>
 
 #include "juzvanec.h"
 
 #define FRAMES 8u
+#define VCPUS 1u
 #define TASKS 2u
-#define INPUT_WORDS (11u + TASKS * JUZVANEC_TASK_WORDS)
+#define INPUT_WORDS (7u + VCPUS * JUZVANEC_VCPU_WORDS + TASKS * JUZVANEC_TASK_WORDS)
 
 static int differences = 0;
 
@@ -50,20 +51,19 @@ static void show_pages(void)
 }
 
 /* Two guests with two colours each, all of them active; eight free frames. */
-static void boot(uint32_t *board, uint16_t *table)
+static void boot(struct juzvanec_board *board, uint16_t *table)
 {
-    memset(board, 0, JUZVANEC_BOARD_WORDS * sizeof *board);
-    memset(table, 0, FRAMES * sizeof *table);
-    board[JUZVANEC_BOARD_COLOURS] = 4;
-    board[JUZVANEC_BOARD_FRAMES] = FRAMES;
-    board[JUZVANEC_BOARD_DOMAINS] = 2;
-    board[JUZVANEC_BOARD_GRANTS + 0] = board[JUZVANEC_BOARD_ACTIVE + 0] = 0x3;
-    board[JUZVANEC_BOARD_GRANTS + 1] = board[JUZVANEC_BOARD_ACTIVE + 1] = 0xC;
+    static const struct juzvanec_board booted = {4, FRAMES, 2, {0x3, 0xC}, {0x3, 0xC}};
+    unsigned frame;
+
+    *board = booted;
+    for (frame = 0; frame < FRAMES; frame++)
+        table[frame] = JUZVANEC_FREE;
 }
 
 /* A fault that gets a new frame, or is refused. */
-static void show_fault(const uint32_t *board, uint16_t *table, uint32_t domain, uint32_t page,
-                       uint32_t expected, uint32_t expected_frame)
+static void show_fault(const struct juzvanec_board *board, uint16_t *table, uint32_t domain,
+                       uint32_t page, uint32_t expected, uint32_t expected_frame)
 {
     uint32_t is_new, frame, row;
     uint32_t number = juzvanec_fault(board, table, FRAMES, domain, page, &is_new, &frame, &row);
@@ -78,8 +78,8 @@ static void show_fault(const uint32_t *board, uint16_t *table, uint32_t domain, 
     expect("new", is_new, number == JUZVANEC_ANSWERED);
 }
 
-static void show_look(const uint32_t *board, const uint16_t *table, uint32_t domain, uint32_t page,
-                      uint32_t expected_mapped, uint32_t expected_frame)
+static void show_look(const struct juzvanec_board *board, const uint16_t *table, uint32_t domain,
+                      uint32_t page, uint32_t expected_mapped, uint32_t expected_frame)
 {
     uint32_t mapped, frame, row;
 
@@ -107,7 +107,7 @@ static void show_table(const uint16_t *table, const uint16_t *expected)
 }
 
 /* Domain 0 gives up colour 1: its one frame there moves, and the loader copies that page. */
-static void show_recolour(uint32_t *board, uint16_t *table)
+static void show_recolour(struct juzvanec_board *board, uint16_t *table)
 {
     uint16_t moves[JUZVANEC_MOVE_WORDS * FRAMES];
     uint32_t count, set, row, i;
@@ -125,10 +125,10 @@ static void show_recolour(uint32_t *board, uint16_t *table)
     }
     expect("refusal", juzvanec_colours(board, table, FRAMES, 0, &set, &row), JUZVANEC_ANSWERED);
     expect("active set", set, 0x1);
-    expect("board's word", board[JUZVANEC_BOARD_ACTIVE], 0x1);
+    expect("board's set", board->active[0], 0x1);
 }
 
-static void show_release(const uint32_t *board, uint16_t *table)
+static void show_release(const struct juzvanec_board *board, uint16_t *table)
 {
     uint32_t frame, row;
 
@@ -144,75 +144,95 @@ static void show_frames(void)
     static const uint16_t booted[FRAMES] = {JUZVANEC_PAGE_WORD(0, 9), JUZVANEC_PAGE_WORD(0, 1),
                                             JUZVANEC_PAGE_WORD(1, 0)};
     static const uint16_t recoloured[FRAMES] = {10, 0, 4097, 0, 2};
-    uint32_t board[JUZVANEC_BOARD_WORDS];
+    struct juzvanec_board board;
     uint16_t table[FRAMES];
 
-    boot(board, table);
-    show_fault(board, table, 0, 9, JUZVANEC_ANSWERED, 0);
-    show_fault(board, table, 1, 0, JUZVANEC_ANSWERED, 2);
-    show_fault(board, table, 0, 1, JUZVANEC_ANSWERED, 1);
+    boot(&board, table);
+    show_fault(&board, table, 0, 9, JUZVANEC_ANSWERED, 0);
+    show_fault(&board, table, 1, 0, JUZVANEC_ANSWERED, 2);
+    show_fault(&board, table, 0, 1, JUZVANEC_ANSWERED, 1);
     show_table(table, booted);
-    show_recolour(board, table);
+    show_recolour(&board, table);
     show_table(table, recoloured);
-    show_look(board, table, 0, 1, 1, 4);
-    show_look(board, table, 1, 1, 0, 0);
-    show_fault(board, table, 0, 2, JUZVANEC_REFUSED_NO_FRAME, 0);
-    show_release(board, table);
-    show_fault(board, table, 0, 2, JUZVANEC_ANSWERED, 0);
+    show_look(&board, table, 0, 1, 1, 4);
+    show_look(&board, table, 1, 1, 0, 0);
+    show_fault(&board, table, 0, 2, JUZVANEC_REFUSED_NO_FRAME, 0);
+    show_release(&board, table);
+    show_fault(&board, table, 0, 2, JUZVANEC_ANSWERED, 0);
 }
 
-/* The example of the program `admit`: N, F, domains, a grant, reload, a VCPU and two tasks. */
-static void fill_plan(uint32_t *words)
+/* The plan of the program `admit` in document 01: one guest, a VCPU and two tasks. */
+static const struct juzvanec_board plan_board = {16, 64, 1, {255}, {255}};
+static const uint32_t reload = 100;
+static const struct juzvanec_vcpu vcpus[VCPUS] = {{0, 0, 10000, 10000}};
+static struct juzvanec_task tasks[TASKS] = {{0, 4000, 4000, 0x3, {0}}, {0, 10000, 10000, 0x6, {0}}};
+
+/* The same costs whatever the number of colours. */
+static void fill_costs(void)
 {
-    static const uint32_t head[11] = {16, 64, 1, 255, 100, 1, 0, 0, 10000, 10000, 2};
-    static const uint32_t rows[TASKS][5] = {{0, 4000, 4000, 0x3, 1000}, {0, 10000, 10000, 0x6, 3000}};
-    unsigned task, i;
+    unsigned colour;
 
-    memcpy(words, head, sizeof head);
-    for (task = 0; task < TASKS; task++) {
-        uint32_t *row = words + 11 + JUZVANEC_TASK_WORDS * task;
-
-        for (i = 0; i < JUZVANEC_TASK_WORDS; i++)
-            row[i] = rows[task][i < JUZVANEC_TASK_COSTS ? i : JUZVANEC_TASK_COSTS];
+    for (colour = 0; colour < JUZVANEC_MOST_COLOURS; colour++) {
+        tasks[0].costs[colour] = 1000;
+        tasks[1].costs[colour] = 3000;
     }
 }
 
-static void show_plan(const uint32_t *words)
+/* Admits the plan with a list of so many times. */
+static uint32_t admit_plan(uint32_t *times, size_t times_words)
+{
+    uint32_t row;
+
+    return juzvanec_admit_plan(&plan_board, reload, juzvanec_vcpus_as_words(vcpus),
+                               VCPUS * JUZVANEC_VCPU_WORDS, juzvanec_tasks_as_words(tasks),
+                               TASKS * JUZVANEC_TASK_WORDS, times, times_words, &row);
+}
+
+static void show_plan(void)
 {
     static const uint32_t expected[3] = {10000, 1000, 5200};
-    const uint32_t *vcpus = words + 6, *tasks = words + 11;
-    uint32_t board[JUZVANEC_BOARD_WORDS] = {16, 64, 1};
     uint32_t times[3] = {0, 0, 0};
+    uint32_t number;
     size_t start, length;
-    uint32_t number, row;
     unsigned i;
 
-    board[JUZVANEC_BOARD_GRANTS] = board[JUZVANEC_BOARD_ACTIVE] = 255;
-    juzvanec_part(tasks, TASKS * JUZVANEC_TASK_WORDS, 0, &start, &length);
+    juzvanec_part(juzvanec_tasks_as_words(tasks), TASKS * JUZVANEC_TASK_WORDS, 0, &start, &length);
     printf("part of VCPU 0: words %lu to %lu\n", (unsigned long)start, (unsigned long)(start + length));
     expect("part", (uint32_t)(start + length), 40);
-    number = juzvanec_admit_plan(board, words[4], vcpus, JUZVANEC_VCPU_WORDS, tasks,
-                                 TASKS * JUZVANEC_TASK_WORDS, times, 3, &row);
-    expect("refusal", number, JUZVANEC_ANSWERED);
+    expect("refusal", admit_plan(times, 3), JUZVANEC_ANSWERED);
     printf("VCPU times %lu, task times %lu %lu\n", (unsigned long)times[0], (unsigned long)times[1],
            (unsigned long)times[2]);
     for (i = 0; i < 3; i++)
         expect("time", times[i], expected[i]);
-    number = juzvanec_admit_plan(board, words[4], vcpus, JUZVANEC_VCPU_WORDS, tasks,
-                                 TASKS * JUZVANEC_TASK_WORDS, times, 2, &row);
+    number = admit_plan(times, 2);
     printf("with a list of two times: refused %lu\n", (unsigned long)number);
     expect("refusal", number, JUZVANEC_REFUSED_TASK_WORDS);
 }
 
-/* The same plan as the bytes that the program `admit` reads, whatever the byte order here. */
-static void show_admit(const uint32_t *words)
+/* Appends words as the bytes that the program `admit` reads, whatever the byte order here. */
+static uint8_t *append(uint8_t *end, const uint32_t *words, size_t count)
 {
+    size_t i;
+
+    for (i = 0; i < 4 * count; i++)
+        *end++ = (uint8_t)(words[i / 4] >> 8 * (i % 4));
+    return end;
+}
+
+/* The same plan through the program `admit`, and once cut short; it has a text for both. */
+static void show_admit(void)
+{
+    const uint32_t head[6] = {plan_board.colours,   plan_board.frames, plan_board.domains,
+                              plan_board.grants[0], reload,            VCPUS};
+    const uint32_t count = TASKS;
     uint8_t input[4 * INPUT_WORDS], text[JUZVANEC_TEXT_BYTES];
     uint32_t length, taken, row;
-    unsigned i;
+    uint8_t *end = append(input, head, 6);
 
-    for (i = 0; i < sizeof input; i++)
-        input[i] = (uint8_t)(words[i / 4] >> 8 * (i % 4));
+    end = append(end, juzvanec_vcpus_as_words(vcpus), VCPUS * JUZVANEC_VCPU_WORDS);
+    end = append(end, &count, 1);
+    end = append(end, juzvanec_tasks_as_words(tasks), TASKS * JUZVANEC_TASK_WORDS);
+    expect("input", (uint32_t)(end - input), sizeof input);
     expect("refusal", juzvanec_admit(input, sizeof input, text, &length, &taken, &row),
            JUZVANEC_ANSWERED);
     fwrite(text, 1, length, stdout);
@@ -225,14 +245,17 @@ static void show_admit(const uint32_t *words)
 
 int main(void)
 {
-    uint32_t words[INPUT_WORDS];
-
+    if (juzvanec_interface() != JUZVANEC_INTERFACE) {
+        printf("the archive has interface %lu, the header %lu\n", (unsigned long)juzvanec_interface(),
+               (unsigned long)JUZVANEC_INTERFACE);
+        return 2;
+    }
     show_cache(1048576, 16, 16);
     show_cache(2097152, 16, 0);
     show_pages();
     show_frames();
-    fill_plan(words);
-    show_plan(words);
-    show_admit(words);
+    fill_costs();
+    show_plan();
+    show_admit();
     return differences != 0;
 }

@@ -6,10 +6,10 @@
 int main(void)
 {
     /* 4 colours, 8 frames, 2 domains; grants 0x3 and 0xC, both active */
-    uint32_t board[JUZVANEC_BOARD_WORDS] = {4, 8, 2, 0x3, 0xC, 0, 0, 0, 0, 0, 0, 0x3, 0xC};
+    struct juzvanec_board board = {4, 8, 2, {0x3, 0xC}, {0x3, 0xC}};
     uint16_t table[8] = {JUZVANEC_FREE};
     uint32_t is_new, frame, row;
-    uint32_t refused = juzvanec_fault(board, table, 8, 1, 0, &is_new, &frame, &row);
+    uint32_t refused = juzvanec_fault(&board, table, 8, 1, 0, &is_new, &frame, &row);
 
     if (refused)
         printf("refused %u %u\n", (unsigned)refused, (unsigned)row);

@@ -3,21 +3,24 @@
  * Link libjuzvanec.a, which asks for memcpy and memset and nothing else. Terms and numbers are those of
  * document 01.
  *
- * Replies. Every function but juzvanec_part returns the number of its refusal, or 0 (JUZVANEC_ANSWERED)
- * where it answers. Numbers that come back through pointers are always written:
+ * Replies. Every function but juzvanec_part and juzvanec_interface returns the number of its refusal, or
+ * 0 (JUZVANEC_ANSWERED) where it answers. Numbers that come back through pointers are always written:
  *
  *   it answers   *row is 0, the others are the answer
  *   it refuses   *row is the refusal's row, the others are 0
  *
- * A refusal changes nothing that was lent: table, moves, times and board are as before. The row is the
- * lowest domain at fault for 5 to 7, the lowest row of the plan at fault for 17 to 22 (a VCPU row for 17
- * and 21, a task row for 18, 19, 20 and 22), else 0.
+ * A refusal changes nothing that was lent: table, moves, times and board are as before. juzvanec_admit
+ * alone differs, since a refusal is what the program `admit` prints: there the text is written, and
+ * *length and *words are given, on a refusal too.
+ *
+ * The row is the lowest domain at fault for 5 to 7, the lowest row of the plan at fault for 17 to 22 (a
+ * VCPU row for 17 and 21, a task row for 18, 19, 20 and 22), else 0.
  *
  * Pointers. Each must be valid for what is read or written through it, aligned for its type and not null.
  * Lists that are lent in one call, the board and the numbers that come back must not overlap each other. A
  * list of length 0 may be given by any aligned pointer that is not null. Nothing else is asked of a
- * caller: every number and every content of a list is answered or refused. No function keeps a pointer,
- * has memory of its own, or calls anything but memcpy and memset.
+ * caller: every number and every content of a list is answered or refused. No function keeps anything
+ * between calls, neither a pointer nor memory of its own, or calls anything but memcpy and memset.
  */
 #ifndef JUZVANEC_H
 #define JUZVANEC_H
@@ -29,7 +32,18 @@
 extern "C" {
 #endif
 
+/*
+ * The number of this interface. It goes up where a prototype, a struct or the meaning of a call changes.
+ * juzvanec_interface() tells that of the archive. Where the two differ the archive is not this header's,
+ * and no other function of it may be called:
+ *
+ *     if (juzvanec_interface() != JUZVANEC_INTERFACE)
+ *         do not boot
+ */
+#define JUZVANEC_INTERFACE 1u
+
 /* Limits. */
+#define JUZVANEC_MOST_COLOURS 16u
 #define JUZVANEC_MOST_DOMAINS 8u
 #define JUZVANEC_MOST_FRAMES 4096u
 #define JUZVANEC_MOST_VCPUS 16u
@@ -43,16 +57,17 @@ extern "C" {
 #define JUZVANEC_PAGE_BYTES 4096u         /* a page or a frame */
 
 /*
- * A board: 19 words of 32 bits. N is the number of colours of the cache, F that of frames. A grant or an
- * active set has bit c for colour c. The sets of domains at or beyond the count are neither read nor
- * changed.
+ * A board: 19 words of 32 bits. A grant or an active set has bit c for colour c. The sets of domains at or
+ * beyond the count are neither read nor changed.
  */
 #define JUZVANEC_BOARD_WORDS 19u
-#define JUZVANEC_BOARD_COLOURS 0u /* N: 1, 2, 4, 8 or 16 */
-#define JUZVANEC_BOARD_FRAMES 1u  /* F: 1 to 4,096 */
-#define JUZVANEC_BOARD_DOMAINS 2u /* the domain count: 1 to 8 */
-#define JUZVANEC_BOARD_GRANTS 3u  /* eight grants, which share no colour */
-#define JUZVANEC_BOARD_ACTIVE 11u /* eight active sets, each inside its grant */
+struct juzvanec_board {
+    uint32_t colours;                       /* N, the colours of the cache: 1, 2, 4, 8 or 16 */
+    uint32_t frames;                        /* F, the frames: 1 to 4,096 */
+    uint32_t domains;                       /* the domain count: 1 to 8 */
+    uint32_t grants[JUZVANEC_MOST_DOMAINS]; /* not empty, and share no colour */
+    uint32_t active[JUZVANEC_MOST_DOMAINS]; /* not empty, each inside its grant */
+};
 
 /*
  * The frame table: F words of 16 bits, word f for frame f. A frame's colour is f modulo N. A word that is
@@ -65,20 +80,55 @@ extern "C" {
 /* the words of a move in a move list: page, old frame, new frame */
 #define JUZVANEC_MOVE_WORDS 3u
 
-/* A plan's rows, of words of 32 bits; earlier rows have higher priority. Times are microseconds. */
+/*
+ * A plan's rows, of words of 32 bits; earlier rows have higher priority. Times are microseconds. The calls
+ * take lists of words: fill words in, by the number of each in its row, or structs, and lend them through
+ * juzvanec_vcpus_as_words and juzvanec_tasks_as_words.
+ */
 #define JUZVANEC_VCPU_WORDS 4u
-#define JUZVANEC_VCPU_CORE 0u   /* 0 to 3 */
-#define JUZVANEC_VCPU_DOMAIN 1u /* below the domain count */
-#define JUZVANEC_VCPU_PERIOD 2u /* 1 to 1,000,000 */
-#define JUZVANEC_VCPU_BUDGET 3u /* 1 to the period */
-#define JUZVANEC_TASK_WORDS 20u
-#define JUZVANEC_TASK_VCPU 0u     /* a given VCPU row, ascending over the task rows */
-#define JUZVANEC_TASK_PERIOD 1u   /* 1 to 1,000,000 */
-#define JUZVANEC_TASK_DEADLINE 2u /* 1 to the period */
-#define JUZVANEC_TASK_SET 3u      /* colours, not empty, inside the grant of the VCPU's domain */
-#define JUZVANEC_TASK_COSTS 4u    /* sixteen costs, for 1 to 16 colours, none above the one before */
+#define JUZVANEC_VCPU_CORE 0u
+#define JUZVANEC_VCPU_DOMAIN 1u
+#define JUZVANEC_VCPU_PERIOD 2u
+#define JUZVANEC_VCPU_BUDGET 3u
+struct juzvanec_vcpu {
+    uint32_t core;   /* 0 to 3 */
+    uint32_t domain; /* below the domain count */
+    uint32_t period; /* 1 to 1,000,000 */
+    uint32_t budget; /* 1 to the period */
+};
 
-/* Bytes that hold every text of juzvanec_admit. */
+#define JUZVANEC_TASK_WORDS 20u
+#define JUZVANEC_TASK_VCPU 0u
+#define JUZVANEC_TASK_PERIOD 1u
+#define JUZVANEC_TASK_DEADLINE 2u
+#define JUZVANEC_TASK_SET 3u
+#define JUZVANEC_TASK_COSTS 4u
+struct juzvanec_task {
+    uint32_t vcpu;                         /* a given VCPU row, ascending over the task rows */
+    uint32_t period;                       /* 1 to 1,000,000 */
+    uint32_t deadline;                     /* 1 to the period */
+    uint32_t set;                          /* colours, not empty, inside the grant of the VCPU's domain */
+    uint32_t costs[JUZVANEC_MOST_COLOURS]; /* with 1 to 16 colours: 1 to 1,000,000, never rising */
+};
+
+/* The structs are their words, without gaps: an array of -1 elements is no type. */
+typedef char juzvanec_board_is_words[sizeof(struct juzvanec_board) == 4u * JUZVANEC_BOARD_WORDS ? 1 : -1];
+typedef char juzvanec_vcpu_is_words[sizeof(struct juzvanec_vcpu) == 4u * JUZVANEC_VCPU_WORDS ? 1 : -1];
+typedef char juzvanec_task_is_words[sizeof(struct juzvanec_task) == 4u * JUZVANEC_TASK_WORDS ? 1 : -1];
+
+/* VCPU rows as words, JUZVANEC_VCPU_WORDS for each row. */
+static inline const uint32_t *juzvanec_vcpus_as_words(const struct juzvanec_vcpu *rows)
+{
+    return (const uint32_t *)rows;
+}
+
+/* Task rows as words, JUZVANEC_TASK_WORDS for each row. */
+static inline const uint32_t *juzvanec_tasks_as_words(const struct juzvanec_task *rows)
+{
+    return (const uint32_t *)rows;
+}
+
+/* The bytes that the text of juzvanec_admit must have. */
 #define JUZVANEC_TEXT_BYTES 1024u
 
 /* Refusals, in the order in which they are tested. */
@@ -106,6 +156,9 @@ extern "C" {
 #define JUZVANEC_REFUSED_VCPU_LATE 21u    /* a VCPU has no time up to its period */
 #define JUZVANEC_REFUSED_TASK_LATE 22u    /* a task has no time up to its deadline */
 
+/* The number of the archive's interface, to be compared with JUZVANEC_INTERFACE. */
+uint32_t juzvanec_interface(void);
+
 /* The number N of colours of a cache of so many bytes in so many ways. Refusal 2. */
 uint32_t juzvanec_cache_colours(uint64_t bytes, uint64_t ways, uint32_t *colours, uint32_t *row);
 
@@ -119,59 +172,58 @@ uint32_t juzvanec_bleach(uint32_t colours, uint32_t set, uint32_t page, uint32_t
  * The lowest frame that the domain holds for the page: *mapped is 1 and *frame its number, or both are 0
  * where the page is unmapped. Refusals 2 to 8, 10.
  */
-uint32_t juzvanec_look(const uint32_t *board, const uint16_t *table, size_t table_words, uint32_t domain,
-                       uint32_t page, uint32_t *mapped, uint32_t *frame, uint32_t *row);
+uint32_t juzvanec_look(const struct juzvanec_board *board, const uint16_t *table, size_t table_words,
+                       uint32_t domain, uint32_t page, uint32_t *mapped, uint32_t *frame, uint32_t *row);
 
 /*
  * If the page is mapped, its lowest frame, and *is_new is 0. Else the lowest free frame with a colour in
  * the domain's active set: its word becomes the page word, and *is_new is 1. Refusals 2 to 8, 10, 12.
  */
-uint32_t juzvanec_fault(const uint32_t *board, uint16_t *table, size_t table_words, uint32_t domain,
-                        uint32_t page, uint32_t *is_new, uint32_t *frame, uint32_t *row);
+uint32_t juzvanec_fault(const struct juzvanec_board *board, uint16_t *table, size_t table_words,
+                        uint32_t domain, uint32_t page, uint32_t *is_new, uint32_t *frame, uint32_t *row);
 
 /* The lowest frame that the domain holds for the page becomes free. Refusals 2 to 8, 10, 14. */
-uint32_t juzvanec_release(const uint32_t *board, uint16_t *table, size_t table_words, uint32_t domain,
-                          uint32_t page, uint32_t *frame, uint32_t *row);
+uint32_t juzvanec_release(const struct juzvanec_board *board, uint16_t *table, size_t table_words,
+                          uint32_t domain, uint32_t page, uint32_t *frame, uint32_t *row);
 
 /* The domain's active set. Refusals 2 to 8. */
-uint32_t juzvanec_colours(const uint32_t *board, const uint16_t *table, size_t table_words,
+uint32_t juzvanec_colours(const struct juzvanec_board *board, const uint16_t *table, size_t table_words,
                           uint32_t domain, uint32_t *set, uint32_t *row);
 
 /*
  * The domain's frames outside the new set, ascending, go to the free frames inside it, ascending; the old
- * frames become free. *count is the number of moves. The move list receives three words for each, in any
- * order of moves, and its rest does not change. The board gets the set at JUZVANEC_BOARD_ACTIVE + domain.
- * The pages' contents are the caller's to copy. Refusals 2 to 9, 12, 13.
+ * frames become free, and the set is the domain's active one in the board. *count is the number of moves.
+ * The move list receives JUZVANEC_MOVE_WORDS words for each, in any order of moves, and its rest does not
+ * change. The pages' contents are the caller's to copy. Refusals 2 to 9, 12, 13.
  */
-uint32_t juzvanec_recolour(uint32_t *board, uint16_t *table, size_t table_words, uint32_t domain,
-                           uint32_t set, uint16_t *moves, size_t move_words, uint32_t *count,
-                           uint32_t *row);
+uint32_t juzvanec_recolour(struct juzvanec_board *board, uint16_t *table, size_t table_words,
+                           uint32_t domain, uint32_t set, uint16_t *moves, size_t move_words,
+                           uint32_t *count, uint32_t *row);
 
 /*
  * The part of a VCPU in the caller's task list, of any words: it starts at word *start and has *length
  * words, from the VCPU's first row up to the next row of another. Without such a row *length is 0 and
  * *start is behind the last whole row. Refuses nothing.
  */
-void juzvanec_part(const uint32_t *tasks, size_t task_words, uint32_t vcpu, size_t *start,
-                   size_t *length);
+void juzvanec_part(const uint32_t *tasks, size_t task_words, uint32_t vcpu, size_t *start, size_t *length);
 
 /*
  * Admits a plan on the board, without a frame table: writes the times of the VCPUs and then of the tasks,
  * in row order, to the front of the list of times, whose rest does not change. Reload is microseconds for
  * each colour. Refusals 2 to 7, 15 to 22.
  */
-uint32_t juzvanec_admit_plan(const uint32_t *board, uint32_t reload, const uint32_t *vcpus,
+uint32_t juzvanec_admit_plan(const struct juzvanec_board *board, uint32_t reload, const uint32_t *vcpus,
                              size_t vcpu_words, const uint32_t *tasks, size_t task_words,
                              uint32_t *times, size_t times_words, uint32_t *row);
 
 /*
  * The program `admit`: reads the plan in the input, as little-endian words of 32 bits, and writes what the
- * program prints to the text of JUZVANEC_TEXT_BYTES bytes. *length is the text's length in bytes, on a
- * refusal too, and the bytes past it do not change; *words is how many words the plan took, 0 where the
- * refusal is 1. Refusals 1 to 6, 15 to 22.
+ * program prints to the text, which must have all its bytes. *length is the text's length in bytes, and
+ * the bytes past it do not change; *words is how many words the plan took. Both are given and the text is
+ * written on a refusal too; *words is 0 where the refusal is 1. Refusals 1 to 6, 15 to 22.
  */
-uint32_t juzvanec_admit(const uint8_t *input, size_t input_bytes, uint8_t *text, uint32_t *length,
-                        uint32_t *words, uint32_t *row);
+uint32_t juzvanec_admit(const uint8_t *input, size_t input_bytes, uint8_t text[JUZVANEC_TEXT_BYTES],
+                        uint32_t *length, uint32_t *words, uint32_t *row);
 
 #ifdef __cplusplus
 }

@@ -109,7 +109,7 @@ impl Case for Pages {
 /// A board and table on which domain 1 looks or faults pages, and the table is restored.
 pub struct Frames {
     board: Board,
-    words: [u32; 19],
+    lent: juzvanec::Board,
     table: Vec<u16>,
     page: u32,
 }
@@ -118,7 +118,7 @@ impl Frames {
     pub fn new(board: Board, table: Vec<u16>, page: u32) -> Self {
         Frames {
             board,
-            words: ours::words(&board),
+            lent: ours::lent(&board),
             table,
             page,
         }
@@ -130,9 +130,9 @@ pub struct Look(pub Frames);
 
 impl Case for Look {
     fn ours(&mut self) {
-        let Frames { words, table, .. } = &self.0;
+        let Frames { lent, table, .. } = &self.0;
         let page = black_box(self.0.page);
-        black_box(ours::look(black_box(words), black_box(table), 1, page));
+        black_box(ours::look(black_box(lent), black_box(table), 1, page));
     }
 
     fn base(&mut self) {
@@ -143,7 +143,7 @@ impl Case for Look {
 
     fn agree(&mut self) -> bool {
         let Frames {
-            words,
+            lent,
             board,
             table,
             page,
@@ -153,7 +153,7 @@ impl Case for Look {
             Looked::Mapped(frame) => [1, frame as u32],
             Looked::Unmapped => [0, 0],
         });
-        ours::look(words, table, 1, *page) == base
+        ours::look(lent, table, 1, *page) == base
     }
 
     fn symbols(&self) -> [&'static str; 2] {
@@ -174,9 +174,8 @@ fn faulted(faulted: Faulted) -> [u32; 2] {
 impl Case for Fault {
     fn ours(&mut self) {
         let page = black_box(self.0.page);
-        let Frames { words, table, .. } = &mut self.0;
-        let (_, _, [_, frame]) =
-            black_box(ours::fault(black_box(words), black_box(table), 1, page));
+        let Frames { lent, table, .. } = &mut self.0;
+        let (_, _, [_, frame]) = black_box(ours::fault(black_box(lent), black_box(table), 1, page));
         self.0.table[frame as usize] = 0;
     }
 
@@ -193,7 +192,7 @@ impl Case for Fault {
         let page = self.0.page;
         let [mut one, mut two] = [self.0.table.clone(), self.0.table.clone()];
         let base = reply(baseline::fault(&self.0.board, &mut one, 1, page), faulted);
-        let ours = ours::fault(&self.0.words, &mut two, 1, page);
+        let ours = ours::fault(&self.0.lent, &mut two, 1, page);
         // the cases are all of new frames, which `ours` and `base` rely on
         ours == base && one == two && ours.2[0] == 1
     }
@@ -214,8 +213,8 @@ impl Case for Boot {
     fn ours(&mut self) {
         self.table.copy_from_slice(&self.frames.table);
         for page in 0..self.faults {
-            let words = black_box(&self.frames.words);
-            black_box(ours::fault(words, &mut self.table, 1, black_box(page)));
+            let lent = black_box(&self.frames.lent);
+            black_box(ours::fault(lent, &mut self.table, 1, black_box(page)));
         }
     }
 
@@ -262,15 +261,15 @@ impl Recolour {
     #[inline(always)]
     fn restore(&mut self) {
         self.now.board = self.start.board;
-        self.now.words = self.start.words;
+        self.now.lent = self.start.lent;
         self.now.table.copy_from_slice(&self.start.table);
     }
 
     fn reply_ours(&mut self) -> Reply {
         self.restore();
-        let Frames { words, table, .. } = &mut self.now;
+        let Frames { lent, table, .. } = &mut self.now;
         let set = black_box(self.set);
-        ours::recolour(words, table, 0, set, &mut self.moves)
+        ours::recolour(lent, table, 0, set, &mut self.moves)
     }
 
     fn reply_base(&mut self) -> Result<usize, Refusal> {
@@ -293,12 +292,12 @@ impl Case for Recolour {
     fn agree(&mut self) -> bool {
         self.moves.fill(7);
         let one = self.reply_ours();
-        let (table, words, moves) = (self.now.table.clone(), self.now.words, self.moves.clone());
+        let (table, lent, moves) = (self.now.table.clone(), self.now.lent, self.moves.clone());
         self.moves.fill(7);
         let two = reply(self.reply_base(), |count| [count as u32, 0]);
         let Frames { board, .. } = &self.now;
         let lists = table == self.now.table && moves == self.moves;
-        one == two && lists && words == ours::words(board) && one.2[0] > 0
+        one == two && lists && lent == ours::lent(board) && one.2[0] > 0
     }
 
     fn symbols(&self) -> [&'static str; 2] {
@@ -309,7 +308,7 @@ impl Case for Recolour {
 /// The admission of a plan, against a baseline that may keep charges between rounds.
 pub struct Admission {
     plan: Plan,
-    words: [u32; 19],
+    lent: juzvanec::Board,
     times: Vec<u32>,
     expected: u32,
     keeping: bool,
@@ -318,7 +317,7 @@ pub struct Admission {
 impl Admission {
     pub fn new(plan: Plan, expected: u32, keeping: bool) -> Self {
         Admission {
-            words: ours::words(&plan.board),
+            lent: ours::lent(&plan.board),
             times: vec![7; inputs::ROWS],
             plan,
             expected,
@@ -329,7 +328,7 @@ impl Admission {
     fn reply_ours(&mut self) -> Reply {
         let Plan { vcpus, tasks, .. } = black_box(&self.plan);
         let reload = black_box(self.plan.reload);
-        ours::admit_plan(&self.words, reload, vcpus, tasks, &mut self.times)
+        ours::admit_plan(&self.lent, reload, vcpus, tasks, &mut self.times)
     }
 
     fn reply_base(&mut self) -> Result<(), Refusal> {

@@ -1,8 +1,7 @@
 //! The linked library through its C interface, and all unsafe code of the benchmark. Replies are handed
 //! on as the interface gives them.
 
-use baseline::Board;
-use juzvanec::raw;
+use juzvanec::{raw, Board};
 
 /// The number and row of a reply, and its other numbers.
 pub type Reply = (u32, u32, [u32; 2]);
@@ -24,12 +23,12 @@ pub fn bleach(colours: u32, set: u32, page: u32) -> Reply {
 }
 
 #[inline(always)]
-pub fn look(board: &[u32; 19], table: &[u16], domain: u32, page: u32) -> Reply {
+pub fn look(board: &Board, table: &[u16], domain: u32, page: u32) -> Reply {
     let [mut mapped, mut frame, mut row] = [0; 3];
     // SAFETY: board and table are valid for their lengths; three words of this function's own are lent.
     let number = unsafe {
         raw::juzvanec_look(
-            board.as_ptr(),
+            board,
             table.as_ptr(),
             table.len(),
             domain,
@@ -43,12 +42,12 @@ pub fn look(board: &[u32; 19], table: &[u16], domain: u32, page: u32) -> Reply {
 }
 
 #[inline(always)]
-pub fn fault(board: &[u32; 19], table: &mut [u16], domain: u32, page: u32) -> Reply {
+pub fn fault(board: &Board, table: &mut [u16], domain: u32, page: u32) -> Reply {
     let [mut is_new, mut frame, mut row] = [0; 3];
     // SAFETY: board and table are valid for their lengths; three words of this function's own are lent.
     let number = unsafe {
         raw::juzvanec_fault(
-            board.as_ptr(),
+            board,
             table.as_mut_ptr(),
             table.len(),
             domain,
@@ -63,7 +62,7 @@ pub fn fault(board: &[u32; 19], table: &mut [u16], domain: u32, page: u32) -> Re
 
 #[inline(always)]
 pub fn recolour(
-    board: &mut [u32; 19],
+    board: &mut Board,
     table: &mut [u16],
     domain: u32,
     set: u32,
@@ -74,7 +73,7 @@ pub fn recolour(
     // function's own are lent.
     let number = unsafe {
         raw::juzvanec_recolour(
-            board.as_mut_ptr(),
+            board,
             table.as_mut_ptr(),
             table.len(),
             domain,
@@ -90,7 +89,7 @@ pub fn recolour(
 
 #[inline(always)]
 pub fn admit_plan(
-    board: &[u32; 19],
+    board: &Board,
     reload: u32,
     vcpus: &[u32],
     tasks: &[u32],
@@ -101,7 +100,7 @@ pub fn admit_plan(
     // this function's own is lent.
     let number = unsafe {
         raw::juzvanec_admit_plan(
-            board.as_ptr(),
+            board,
             reload,
             vcpus.as_ptr(),
             vcpus.len(),
@@ -115,11 +114,13 @@ pub fn admit_plan(
     (number, row, [0; 2])
 }
 
-/// The board as the words of the interface.
-pub fn words(board: &Board) -> [u32; 19] {
-    let mut words = [0; 19];
-    words[..3].copy_from_slice(&[board.colours, board.frames, board.domains]);
-    words[3..11].copy_from_slice(&board.grants);
-    words[11..].copy_from_slice(&board.active);
-    words
+/// The baseline's board as it is lent to the library.
+pub fn lent(board: &baseline::Board) -> Board {
+    Board {
+        colours: board.colours,
+        frames: board.frames,
+        domains: board.domains,
+        grants: board.grants,
+        active: board.active,
+    }
 }

@@ -1,4 +1,4 @@
-//! Links the proved library, one object without undefined symbols. It is sought in the directory that
+//! Links the proved library, one object that asks for memcpy and memset. It is sought in the directory that
 //! JUZVANEC_LIB_DIR names, or else in target/staticlib of the repository.
 
 use std::env;

@@ -20,8 +20,8 @@ pub struct Board {
     pub active: [u32; DOMAINS],
 }
 
-/// The words of a board.
-pub(crate) const WORDS: usize = 19;
+/// The words of a board, without gaps.
+const WORDS: usize = 19;
 
 const _: () = assert!(size_of::<Board>() == WORDS * size_of::<u32>());
 const _: () = assert!(align_of::<Board>() == align_of::<u32>());

@@ -2,8 +2,10 @@
 //! References are valid, aligned and not null, empty slices too, and no two of them overlap where one is
 //! for writing; that is all that the interface asks.
 
-use crate::raw;
-use crate::{Board, Faulted, Looked, Refusal, Verdict, TEXT_BYTES};
+use core::slice;
+
+use crate::{raw, Board, Faulted, Looked, Refusal, Task, Vcpu, Verdict};
+use crate::{INTERFACE, TASK_WORDS, TEXT_BYTES, VCPU_WORDS};
 
 /// The answer, unless the number is a refusal's.
 #[inline]
@@ -14,9 +16,34 @@ fn reply<A>(number: u32, row: u32, answer: A) -> Result<A, Refusal> {
     }
 }
 
+/// Panics where the archive is not this package's, so that no function of it is called with arguments
+/// that it understands otherwise. It costs a call of two instructions.
 #[inline]
-fn words(board: &Board) -> *const u32 {
-    (board as *const Board).cast()
+fn see_interface() {
+    // SAFETY: nothing is lent.
+    let found = unsafe { raw::juzvanec_interface() };
+    if found != INTERFACE {
+        other_interface(found);
+    }
+}
+
+#[cold]
+fn other_interface(found: u32) -> ! {
+    panic!("libjuzvanec.a has interface {found}, and this package is for {INTERFACE}");
+}
+
+/// The words of VCPU rows.
+#[inline]
+pub(crate) fn vcpu_words(rows: &[Vcpu]) -> &[u32] {
+    // SAFETY: a row is so many words without gaps and aligned as they are, which its module asserts.
+    unsafe { slice::from_raw_parts(rows.as_ptr().cast(), VCPU_WORDS * rows.len()) }
+}
+
+/// The words of task rows.
+#[inline]
+pub(crate) fn task_words(rows: &[Task]) -> &[u32] {
+    // SAFETY: as above.
+    unsafe { slice::from_raw_parts(rows.as_ptr().cast(), TASK_WORDS * rows.len()) }
 }
 
 /// The number N of colours of a cache of so many bytes in so many ways. Refusal 2.
@@ -27,6 +54,7 @@ fn words(board: &Board) -> *const u32 {
 /// ```
 #[inline]
 pub fn cache_colours(bytes: u64, ways: u64) -> Result<u32, Refusal> {
+    see_interface();
     let (mut colours, mut row) = (0, 0);
     // SAFETY: two words of this function's own are lent.
     let number = unsafe { raw::juzvanec_cache_colours(bytes, ways, &mut colours, &mut row) };
@@ -40,6 +68,7 @@ pub fn cache_colours(bytes: u64, ways: u64) -> Result<u32, Refusal> {
 /// ```
 #[inline]
 pub fn layout(colours: u32, set: u32, index: u32) -> Result<u32, Refusal> {
+    see_interface();
     let (mut page, mut row) = (0, 0);
     // SAFETY: two words of this function's own are lent.
     let number = unsafe { raw::juzvanec_layout(colours, set, index, &mut page, &mut row) };
@@ -54,6 +83,7 @@ pub fn layout(colours: u32, set: u32, index: u32) -> Result<u32, Refusal> {
 /// ```
 #[inline]
 pub fn bleach(colours: u32, set: u32, page: u32) -> Result<u32, Refusal> {
+    see_interface();
     let (mut index, mut row) = (0, 0);
     // SAFETY: two words of this function's own are lent.
     let number = unsafe { raw::juzvanec_bleach(colours, set, page, &mut index, &mut row) };
@@ -71,12 +101,13 @@ pub fn bleach(colours: u32, set: u32, page: u32) -> Result<u32, Refusal> {
 /// ```
 #[inline]
 pub fn look(board: &Board, table: &[u16], domain: u32, page: u32) -> Result<Looked, Refusal> {
+    see_interface();
     let (mut mapped, mut frame, mut row) = (0, 0, 0);
     // SAFETY: the board has 19 words and the table as many as it says; three words of this function's
     // own are lent for writing.
     let number = unsafe {
         raw::juzvanec_look(
-            words(board),
+            board,
             table.as_ptr(),
             table.len(),
             domain,
@@ -107,12 +138,13 @@ pub fn look(board: &Board, table: &[u16], domain: u32, page: u32) -> Result<Look
 /// ```
 #[inline]
 pub fn fault(board: &Board, table: &mut [u16], domain: u32, page: u32) -> Result<Faulted, Refusal> {
+    see_interface();
     let (mut is_new, mut frame, mut row) = (0, 0, 0);
     // SAFETY: the board has 19 words and the table as many as it says; the table and three words of this
     // function's own are lent for writing.
     let number = unsafe {
         raw::juzvanec_fault(
-            words(board),
+            board,
             table.as_mut_ptr(),
             table.len(),
             domain,
@@ -142,12 +174,13 @@ pub fn fault(board: &Board, table: &mut [u16], domain: u32, page: u32) -> Result
 /// ```
 #[inline]
 pub fn release(board: &Board, table: &mut [u16], domain: u32, page: u32) -> Result<usize, Refusal> {
+    see_interface();
     let (mut frame, mut row) = (0, 0);
     // SAFETY: the board has 19 words and the table as many as it says; the table and two words of this
     // function's own are lent for writing.
     let number = unsafe {
         raw::juzvanec_release(
-            words(board),
+            board,
             table.as_mut_ptr(),
             table.len(),
             domain,
@@ -168,12 +201,13 @@ pub fn release(board: &Board, table: &mut [u16], domain: u32, page: u32) -> Resu
 /// ```
 #[inline]
 pub fn colours(board: &Board, table: &[u16], domain: u32) -> Result<u32, Refusal> {
+    see_interface();
     let (mut set, mut row) = (0, 0);
     // SAFETY: the board has 19 words and the table as many as it says; two words of this function's own
     // are lent for writing.
     let number = unsafe {
         raw::juzvanec_colours(
-            words(board),
+            board,
             table.as_ptr(),
             table.len(),
             domain,
@@ -209,12 +243,13 @@ pub fn recolour(
     set: u32,
     moves: &mut [u16],
 ) -> Result<usize, Refusal> {
+    see_interface();
     let (mut count, mut row) = (0, 0);
     // SAFETY: the board has 19 words, and the table and the move list as many as they say; all three and
     // two words of this function's own are lent for writing.
     let number = unsafe {
         raw::juzvanec_recolour(
-            (board as *mut Board).cast(),
+            board,
             table.as_mut_ptr(),
             table.len(),
             domain,
@@ -239,6 +274,7 @@ pub fn recolour(
 /// ```
 #[inline]
 pub fn part(tasks: &[u32], vcpu: u32) -> &[u32] {
+    see_interface();
     let (mut start, mut length) = (0, 0);
     // SAFETY: the list has as many words as it says; two words of this function's own are lent for
     // writing.
@@ -250,14 +286,14 @@ pub fn part(tasks: &[u32], vcpu: u32) -> &[u32] {
 /// of times, whose rest does not change. Refusals 2 to 7, 15 to 22.
 ///
 /// ```
-/// use juzvanec::{admit_plan, Board};
+/// use juzvanec::{admit_plan, Board, Task, Vcpu};
 ///
 /// let board = Board::new(16, 64, &[0xFF]);
-/// let mut task = vec![0, 4000, 4000, 0x3];
-/// task.extend([1000; 16]);
+/// let vcpus = [Vcpu { core: 0, domain: 0, period: 10_000, budget: 10_000 }];
+/// let tasks = [Task { vcpu: 0, period: 4000, deadline: 4000, set: 0x3, costs: [1000; 16] }];
+/// let (vcpus, tasks) = (Vcpu::words(&vcpus), Task::words(&tasks));
 /// let mut times = [0; 2];
-/// let vcpus = [0, 0, 10_000, 10_000];
-/// assert_eq!(admit_plan(&board, 100, &vcpus, &task, &mut times), Ok(()));
+/// assert_eq!(admit_plan(&board, 100, vcpus, tasks, &mut times), Ok(()));
 /// assert_eq!(times, [10_000, 1000]);
 /// ```
 #[inline]
@@ -268,12 +304,13 @@ pub fn admit_plan(
     tasks: &[u32],
     times: &mut [u32],
 ) -> Result<(), Refusal> {
+    see_interface();
     let mut row = 0;
     // SAFETY: the board has 19 words and the lists as many as they say; the list of times and a word of
     // this function's own are lent for writing.
     let number = unsafe {
         raw::juzvanec_admit_plan(
-            words(board),
+            board,
             reload,
             vcpus.as_ptr(),
             vcpus.len(),
@@ -296,6 +333,7 @@ pub fn admit_plan(
 /// assert_eq!(verdict.admitted().unwrap_err().number, 1);
 /// ```
 pub fn admit(input: &[u8]) -> Verdict {
+    see_interface();
     let mut text = [0; TEXT_BYTES];
     let (mut length, mut words, mut row) = (0, 0, 0);
     // SAFETY: the input has as many bytes as it says and the text 1,024; the text and three words of this
@@ -304,7 +342,7 @@ pub fn admit(input: &[u8]) -> Verdict {
         raw::juzvanec_admit(
             input.as_ptr(),
             input.len(),
-            text.as_mut_ptr(),
+            &mut text,
             &mut length,
             &mut words,
             &mut row,

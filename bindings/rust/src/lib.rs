@@ -1,6 +1,9 @@
 //! Cache-coloured frames for guest systems and the admission of task plans: safe functions over the
 //! proved library `libjuzvanec.a`. Terms, numbers and refusals are those of document 01. Nothing here
-//! allocates, and a refused call changes nothing that was lent.
+//! allocates or keeps anything between calls. A refused call changes nothing that was lent; [`admit`], to
+//! which only the input is lent, has a text and the words that the plan took on a refusal too, since a
+//! refusal is what the program prints. Every function panics where the archive that was linked is of
+//! another interface than [`INTERFACE`].
 //!
 //! ```
 //! use juzvanec::{fault, Board, Faulted, FREE};
@@ -19,6 +22,7 @@
 
 mod board;
 mod refusal;
+mod rows;
 mod text;
 
 #[allow(unsafe_code)]
@@ -31,8 +35,15 @@ pub use calls::{
     admit, admit_plan, bleach, cache_colours, colours, fault, layout, look, part, recolour, release,
 };
 pub use refusal::{Refusal, RowNames};
+pub use rows::{Task, Vcpu};
 pub use text::Verdict;
 
+/// The number of the C interface that this package is for. An archive of another number makes every
+/// function panic; [`raw::juzvanec_interface`] tells that of the archive.
+pub const INTERFACE: u32 = 1;
+
+/// The most colours of a cache.
+pub const COLOURS: usize = 16;
 /// The most domains of a board.
 pub const DOMAINS: usize = 8;
 /// The most frames of a board.
@@ -47,7 +58,7 @@ pub const VCPU_WORDS: usize = 4;
 pub const TASK_WORDS: usize = 20;
 /// The words of a move: page, old frame, new frame.
 pub const MOVE_WORDS: usize = 3;
-/// The bytes that hold every text of [`admit`].
+/// The bytes of the text that [`raw::juzvanec_admit`] writes to.
 pub const TEXT_BYTES: usize = 1024;
 /// The last page that a domain can hold a frame for.
 pub const LAST_PAGE: u32 = 4095;

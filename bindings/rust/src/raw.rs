@@ -1,9 +1,14 @@
 //! The C interface as it is, for callers that hold raw lists. `include/juzvanec.h` says what each
-//! function asks of its pointers, what it writes and which refusals it gives.
+//! function asks of its pointers, what it writes and which refusals it gives. Nothing here looks at the
+//! number of the interface: compare [`juzvanec_interface`] with [`crate::INTERFACE`] before any call.
 
 #![allow(missing_docs)]
 
+use crate::{Board, TEXT_BYTES};
+
 extern "C" {
+    pub fn juzvanec_interface() -> u32;
+
     pub fn juzvanec_cache_colours(bytes: u64, ways: u64, colours: *mut u32, row: *mut u32) -> u32;
 
     pub fn juzvanec_layout(
@@ -23,7 +28,7 @@ extern "C" {
     ) -> u32;
 
     pub fn juzvanec_look(
-        board: *const u32,
+        board: *const Board,
         table: *const u16,
         table_words: usize,
         domain: u32,
@@ -34,7 +39,7 @@ extern "C" {
     ) -> u32;
 
     pub fn juzvanec_fault(
-        board: *const u32,
+        board: *const Board,
         table: *mut u16,
         table_words: usize,
         domain: u32,
@@ -45,7 +50,7 @@ extern "C" {
     ) -> u32;
 
     pub fn juzvanec_release(
-        board: *const u32,
+        board: *const Board,
         table: *mut u16,
         table_words: usize,
         domain: u32,
@@ -55,7 +60,7 @@ extern "C" {
     ) -> u32;
 
     pub fn juzvanec_colours(
-        board: *const u32,
+        board: *const Board,
         table: *const u16,
         table_words: usize,
         domain: u32,
@@ -64,7 +69,7 @@ extern "C" {
     ) -> u32;
 
     pub fn juzvanec_recolour(
-        board: *mut u32,
+        board: *mut Board,
         table: *mut u16,
         table_words: usize,
         domain: u32,
@@ -84,7 +89,7 @@ extern "C" {
     );
 
     pub fn juzvanec_admit_plan(
-        board: *const u32,
+        board: *const Board,
         reload: u32,
         vcpus: *const u32,
         vcpu_words: usize,
@@ -98,7 +103,7 @@ extern "C" {
     pub fn juzvanec_admit(
         input: *const u8,
         input_bytes: usize,
-        text: *mut u8,
+        text: *mut [u8; TEXT_BYTES],
         length: *mut u32,
         words: *mut u32,
         row: *mut u32,

@@ -58,7 +58,9 @@ impl Refusal {
             6 => "a grant shares a colour with another",
             7 => "an active set is empty or has a colour outside its grant",
             8 => "the calling domain is not below the domain count",
-            9 => "the set is empty or has a colour that is not granted, or that the cache has not",
+            9 => {
+                "the set is empty, or has a colour outside the grant, or one that the cache has not"
+            }
             10 => "the page or index exceeds its limit",
             11 => "the page to bleach has a colour outside the set",
             12 => "there are too few free frames in the set",

@@ -6,18 +6,21 @@ use reference::frames::{word, Answer, Board, Call, State, FREE, PAGES, RESERVED}
 use reference::random::Random;
 use reference::reply::Reply;
 
-use crate::interface::{self, Raw, Words};
+use crate::interface::{self, Raw};
 use crate::lent::Lent;
 use crate::tally::{unlike, Tally};
 
 const GUARD: u16 = 0x5AA5;
 
-pub fn words(board: &Board) -> Words {
-    let mut words = [0; 19];
-    words[..3].copy_from_slice(&[board.colours, board.frames, board.domains]);
-    words[3..11].copy_from_slice(&board.grants);
-    words[11..].copy_from_slice(&board.active);
-    words
+/// The model's board as it is lent.
+pub fn lent(board: &Board) -> juzvanec::Board {
+    juzvanec::Board {
+        colours: board.colours,
+        frames: board.frames,
+        domains: board.domains,
+        grants: board.grants,
+        active: board.active,
+    }
 }
 
 fn expected(reply: Reply<Answer>) -> Raw {
@@ -62,7 +65,7 @@ fn kind(call: &Call) -> &'static str {
 }
 
 /// The call through the interface.
-fn run(call: &Call, board: &mut Words, table: &mut [u16], moves: &mut [u16]) -> Raw {
+fn run(call: &Call, board: &mut juzvanec::Board, table: &mut [u16], moves: &mut [u16]) -> Raw {
     match *call {
         Call::Look { domain, page } => interface::look(board, table, domain, page),
         Call::Fault { domain, page } => interface::fault(board, table, domain, page),
@@ -75,7 +78,7 @@ fn run(call: &Call, board: &mut Words, table: &mut [u16], moves: &mut [u16]) -> 
 /// Runs the call on both sides and compares all that either leaves.
 fn compare(state: &mut State, call: &Call, tally: &mut Tally) {
     let before = state.clone();
-    let mut board = words(&state.board);
+    let mut board = lent(&state.board);
     let mut table = Lent::new(&state.table, GUARD);
     let list: Vec<u16> = (0..call.room())
         .map(|place| place as u16 ^ 0xC3C3)
@@ -91,7 +94,7 @@ fn compare(state: &mut State, call: &Call, tally: &mut Tally) {
     let outside = moves.difference("moves", moves.list());
     let differences = [
         unlike("reply", found, model),
-        unlike("board", board, words(&state.board)),
+        unlike("board", board, lent(&state.board)),
         table.difference("table", &state.table),
         outside,
         unlike("moves", sorted(moves.list(), count), sorted(&list, count)),

@@ -1,7 +1,7 @@
 //! The calls of the C interface, and all unsafe code of the comparison. Every number that comes back is
 //! set to rubbish before, so that one left unwritten shows.
 
-use juzvanec::raw;
+use juzvanec::{raw, Board, TEXT_BYTES};
 
 const RUBBISH: u32 = 0xA5A5_5A5A;
 
@@ -45,15 +45,18 @@ pub fn bleach(colours: u32, set: u32, page: u32) -> Raw {
     raw(number, row, &[index])
 }
 
-/// A board of 19 words, which the callers below rely on.
-pub type Words = [u32; 19];
+/// The number of the archive's interface.
+pub fn number() -> u32 {
+    // SAFETY: nothing is lent.
+    unsafe { raw::juzvanec_interface() }
+}
 
-pub fn look(board: &Words, table: &[u16], domain: u32, page: u32) -> Raw {
+pub fn look(board: &Board, table: &[u16], domain: u32, page: u32) -> Raw {
     let [mut mapped, mut frame, mut row] = [RUBBISH; 3];
     // SAFETY: board and table are valid for their lengths; three words of this function's own are lent.
     let number = unsafe {
         raw::juzvanec_look(
-            board.as_ptr(),
+            board,
             table.as_ptr(),
             table.len(),
             domain,
@@ -66,12 +69,12 @@ pub fn look(board: &Words, table: &[u16], domain: u32, page: u32) -> Raw {
     raw(number, row, &[mapped, frame])
 }
 
-pub fn fault(board: &Words, table: &mut [u16], domain: u32, page: u32) -> Raw {
+pub fn fault(board: &Board, table: &mut [u16], domain: u32, page: u32) -> Raw {
     let [mut is_new, mut frame, mut row] = [RUBBISH; 3];
     // SAFETY: board and table are valid for their lengths; three words of this function's own are lent.
     let number = unsafe {
         raw::juzvanec_fault(
-            board.as_ptr(),
+            board,
             table.as_mut_ptr(),
             table.len(),
             domain,
@@ -84,12 +87,12 @@ pub fn fault(board: &Words, table: &mut [u16], domain: u32, page: u32) -> Raw {
     raw(number, row, &[is_new, frame])
 }
 
-pub fn release(board: &Words, table: &mut [u16], domain: u32, page: u32) -> Raw {
+pub fn release(board: &Board, table: &mut [u16], domain: u32, page: u32) -> Raw {
     let [mut frame, mut row] = [RUBBISH; 2];
     // SAFETY: board and table are valid for their lengths; two words of this function's own are lent.
     let number = unsafe {
         raw::juzvanec_release(
-            board.as_ptr(),
+            board,
             table.as_mut_ptr(),
             table.len(),
             domain,
@@ -101,12 +104,12 @@ pub fn release(board: &Words, table: &mut [u16], domain: u32, page: u32) -> Raw 
     raw(number, row, &[frame])
 }
 
-pub fn colours(board: &Words, table: &[u16], domain: u32) -> Raw {
+pub fn colours(board: &Board, table: &[u16], domain: u32) -> Raw {
     let [mut set, mut row] = [RUBBISH; 2];
     // SAFETY: board and table are valid for their lengths; two words of this function's own are lent.
     let number = unsafe {
         raw::juzvanec_colours(
-            board.as_ptr(),
+            board,
             table.as_ptr(),
             table.len(),
             domain,
@@ -118,7 +121,7 @@ pub fn colours(board: &Words, table: &[u16], domain: u32) -> Raw {
 }
 
 pub fn recolour(
-    board: &mut Words,
+    board: &mut Board,
     table: &mut [u16],
     domain: u32,
     set: u32,
@@ -129,7 +132,7 @@ pub fn recolour(
     // function's own are lent.
     let number = unsafe {
         raw::juzvanec_recolour(
-            board.as_mut_ptr(),
+            board,
             table.as_mut_ptr(),
             table.len(),
             domain,
@@ -152,7 +155,7 @@ pub fn part(tasks: &[u32], vcpu: u32) -> (usize, usize) {
 }
 
 pub fn admit_plan(
-    board: &Words,
+    board: &Board,
     reload: u32,
     vcpus: &[u32],
     tasks: &[u32],
@@ -163,7 +166,7 @@ pub fn admit_plan(
     // this function's own is lent.
     let number = unsafe {
         raw::juzvanec_admit_plan(
-            board.as_ptr(),
+            board,
             reload,
             vcpus.as_ptr(),
             vcpus.len(),
@@ -179,7 +182,7 @@ pub fn admit_plan(
 
 /// The values are the text's length and the words that the plan took.
 pub fn admit(input: &[u8], text: &mut [u8]) -> Raw {
-    assert_eq!(text.len(), juzvanec::TEXT_BYTES);
+    let text: &mut [u8; TEXT_BYTES] = text.try_into().expect("so many bytes");
     let [mut length, mut words, mut row] = [RUBBISH; 3];
     // SAFETY: the input is valid for its length and the text has 1,024 bytes, apart from it; three words
     // of this function's own are lent.
@@ -187,7 +190,7 @@ pub fn admit(input: &[u8], text: &mut [u8]) -> Raw {
         raw::juzvanec_admit(
             input.as_ptr(),
             input.len(),
-            text.as_mut_ptr(),
+            text,
             &mut length,
             &mut words,
             &mut row,

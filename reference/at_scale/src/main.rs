@@ -14,7 +14,7 @@ use std::process::ExitCode;
 use std::time::{Duration, Instant};
 
 use reference::random::Random;
-use tally::Tally;
+use tally::{unlike, Tally};
 
 const USAGE: &str = "usage: at_scale [SEED] [CASES | SECONDSs]
   at_scale 7 500000   stops after 500,000 cases or a few more
@@ -74,6 +74,8 @@ fn compare(seed: u64, bound: &Bound) -> Tally {
     let mut tally = Tally::default();
     let start = Instant::now();
     while !bound.reached(&tally, start) {
+        let number = unlike("number", interface::number(), juzvanec::INTERFACE);
+        tally.count("interface", 0, &(), number);
         for _ in 0..10 {
             pages::cache_sizes(&mut random, &mut tally);
             pages::layout(&mut random, &mut tally);

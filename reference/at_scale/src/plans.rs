@@ -9,7 +9,7 @@ use reference::random::Random;
 use reference::random_plans::{admitted, spoil_row};
 use reference::reply::Reply;
 
-use crate::frames::words;
+use crate::frames::lent;
 use crate::interface::{self, Raw};
 use crate::lent::Lent;
 use crate::tally::{unlike, Tally};
@@ -181,7 +181,7 @@ pub fn damage(random: &mut Random, plan: &mut Plan) {
 
 fn compare(plan: &Plan, room: usize, tally: &mut Tally) {
     let before: Vec<u32> = (0..room).map(|place| place as u32 ^ 0xC3C3_0000).collect();
-    let board = words(&plan.board);
+    let board = lent(&plan.board);
     let vcpus = Lent::new(&plan.vcpus, GUARD);
     let tasks = Lent::new(&plan.tasks, GUARD);
     let mut times = Lent::new(&before, GUARD);

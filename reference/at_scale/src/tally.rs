@@ -7,7 +7,8 @@ use std::fmt::Debug;
 const SHOWN: u64 = 5;
 
 /// The functions of the interface, with the refusals that each can give.
-pub const KINDS: [(&str, &[u32]); 11] = [
+pub const KINDS: [(&str, &[u32]); 12] = [
+    ("interface", &[]),
     ("cache sizes", &[2]),
     ("layout", &[2, 9, 10]),
     ("bleaching", &[2, 9, 10, 11]),

@@ -8,23 +8,21 @@
 
 #include "juzvanec.h"
 
-#define RIGHT(type, name) extern type right_##name
+/* The right function of the name, of the type that the header gives it. */
+#define RIGHT(name) extern __typeof__(juzvanec_##name) right_##name
 
-RIGHT(uint32_t, cache_colours)(uint64_t, uint64_t, uint32_t *, uint32_t *);
-RIGHT(uint32_t, layout)(uint32_t, uint32_t, uint32_t, uint32_t *, uint32_t *);
-RIGHT(uint32_t, bleach)(uint32_t, uint32_t, uint32_t, uint32_t *, uint32_t *);
-RIGHT(uint32_t, look)(const uint32_t *, const uint16_t *, size_t, uint32_t, uint32_t, uint32_t *, uint32_t *,
-                      uint32_t *);
-RIGHT(uint32_t, fault)(const uint32_t *, uint16_t *, size_t, uint32_t, uint32_t, uint32_t *, uint32_t *,
-                       uint32_t *);
-RIGHT(uint32_t, release)(const uint32_t *, uint16_t *, size_t, uint32_t, uint32_t, uint32_t *, uint32_t *);
-RIGHT(uint32_t, colours)(const uint32_t *, const uint16_t *, size_t, uint32_t, uint32_t *, uint32_t *);
-RIGHT(uint32_t, recolour)(uint32_t *, uint16_t *, size_t, uint32_t, uint32_t, uint16_t *, size_t, uint32_t *,
-                          uint32_t *);
-RIGHT(void, part)(const uint32_t *, size_t, uint32_t, size_t *, size_t *);
-RIGHT(uint32_t, admit_plan)(const uint32_t *, uint32_t, const uint32_t *, size_t, const uint32_t *, size_t,
-                            uint32_t *, size_t, uint32_t *);
-RIGHT(uint32_t, admit)(const uint8_t *, size_t, uint8_t *, uint32_t *, uint32_t *, uint32_t *);
+RIGHT(interface);
+RIGHT(cache_colours);
+RIGHT(layout);
+RIGHT(bleach);
+RIGHT(look);
+RIGHT(fault);
+RIGHT(release);
+RIGHT(colours);
+RIGHT(recolour);
+RIGHT(part);
+RIGHT(admit_plan);
+RIGHT(admit);
 
 static int wrong(const char *way)
 {
@@ -33,6 +31,11 @@ static int wrong(const char *way)
     if (!chosen)
         chosen = getenv("JUZVANEC_WRONG");
     return chosen && strcmp(chosen, way) == 0;
+}
+
+uint32_t juzvanec_interface(void)
+{
+    return right_interface() + (wrong("interface-number") ? 1 : 0);
 }
 
 uint32_t juzvanec_cache_colours(uint64_t bytes, uint64_t ways, uint32_t *colours, uint32_t *row)
@@ -62,8 +65,8 @@ uint32_t juzvanec_bleach(uint32_t colours, uint32_t set, uint32_t page, uint32_t
     return number;
 }
 
-uint32_t juzvanec_look(const uint32_t *board, const uint16_t *table, size_t table_words, uint32_t domain,
-                       uint32_t page, uint32_t *mapped, uint32_t *frame, uint32_t *row)
+uint32_t juzvanec_look(const struct juzvanec_board *board, const uint16_t *table, size_t table_words,
+                       uint32_t domain, uint32_t page, uint32_t *mapped, uint32_t *frame, uint32_t *row)
 {
     uint32_t number = right_look(board, table, table_words, domain, page, mapped, frame, row);
     uint32_t above;
@@ -75,8 +78,8 @@ uint32_t juzvanec_look(const uint32_t *board, const uint16_t *table, size_t tabl
     return number;
 }
 
-uint32_t juzvanec_fault(const uint32_t *board, uint16_t *table, size_t table_words, uint32_t domain,
-                        uint32_t page, uint32_t *is_new, uint32_t *frame, uint32_t *row)
+uint32_t juzvanec_fault(const struct juzvanec_board *board, uint16_t *table, size_t table_words,
+                        uint32_t domain, uint32_t page, uint32_t *is_new, uint32_t *frame, uint32_t *row)
 {
     uint32_t number = right_fault(board, table, table_words, domain, page, is_new, frame, row);
 
@@ -89,8 +92,8 @@ uint32_t juzvanec_fault(const uint32_t *board, uint16_t *table, size_t table_wor
     return number;
 }
 
-uint32_t juzvanec_release(const uint32_t *board, uint16_t *table, size_t table_words, uint32_t domain,
-                          uint32_t page, uint32_t *frame, uint32_t *row)
+uint32_t juzvanec_release(const struct juzvanec_board *board, uint16_t *table, size_t table_words,
+                          uint32_t domain, uint32_t page, uint32_t *frame, uint32_t *row)
 {
     uint32_t number = right_release(board, table, table_words, domain, page, frame, row);
 
@@ -99,19 +102,19 @@ uint32_t juzvanec_release(const uint32_t *board, uint16_t *table, size_t table_w
     return number;
 }
 
-uint32_t juzvanec_colours(const uint32_t *board, const uint16_t *table, size_t table_words,
+uint32_t juzvanec_colours(const struct juzvanec_board *board, const uint16_t *table, size_t table_words,
                           uint32_t domain, uint32_t *set, uint32_t *row)
 {
     uint32_t number = right_colours(board, table, table_words, domain, set, row);
 
     if (!number && wrong("colours-grant"))
-        *set = board[JUZVANEC_BOARD_GRANTS + domain];
+        *set = board->grants[domain];
     return number;
 }
 
-uint32_t juzvanec_recolour(uint32_t *board, uint16_t *table, size_t table_words, uint32_t domain,
-                           uint32_t set, uint16_t *moves, size_t move_words, uint32_t *count,
-                           uint32_t *row)
+uint32_t juzvanec_recolour(struct juzvanec_board *board, uint16_t *table, size_t table_words,
+                           uint32_t domain, uint32_t set, uint16_t *moves, size_t move_words,
+                           uint32_t *count, uint32_t *row)
 {
     uint32_t number =
         right_recolour(board, table, table_words, domain, set, moves, move_words, count, row);
@@ -119,7 +122,7 @@ uint32_t juzvanec_recolour(uint32_t *board, uint16_t *table, size_t table_words,
     if (number)
         return number;
     if (wrong("recolour-board"))
-        board[JUZVANEC_BOARD_ACTIVE + domain] = board[JUZVANEC_BOARD_GRANTS + domain];
+        board->active[domain] = board->grants[domain];
     if (wrong("recolour-count"))
         ++*count;
     if (3 * *count < move_words && wrong("recolour-rest"))
@@ -142,7 +145,7 @@ void juzvanec_part(const uint32_t *tasks, size_t task_words, uint32_t vcpu, size
         *start = task_words;
 }
 
-uint32_t juzvanec_admit_plan(const uint32_t *board, uint32_t reload, const uint32_t *vcpus,
+uint32_t juzvanec_admit_plan(const struct juzvanec_board *board, uint32_t reload, const uint32_t *vcpus,
                              size_t vcpu_words, const uint32_t *tasks, size_t task_words,
                              uint32_t *times, size_t times_words, uint32_t *row)
 {
@@ -161,8 +164,8 @@ uint32_t juzvanec_admit_plan(const uint32_t *board, uint32_t reload, const uint3
     return number;
 }
 
-uint32_t juzvanec_admit(const uint8_t *input, size_t input_bytes, uint8_t *text, uint32_t *length,
-                        uint32_t *words, uint32_t *row)
+uint32_t juzvanec_admit(const uint8_t *input, size_t input_bytes, uint8_t text[JUZVANEC_TEXT_BYTES],
+                        uint32_t *length, uint32_t *words, uint32_t *row)
 {
     uint32_t number = right_admit(input, input_bytes, text, length, words, row);
 

@@ -1,0 +1,233 @@
+/*
+ * Measures how much stack each function takes, with what it calls, from the first argument or return
+ * address that the caller stores: the calls run on a stack of their own that was painted before, on plans
+ * and boards of every size and on such as are refused. Prints the bytes for each function. README_MOST and
+ * README_OTHERS are what the README says of the deepest function, juzvanec_admit, and of the others; the
+ * exit status is 1 where a call takes more, or where the README says over 512 bytes too many.
+ */
+#define _XOPEN_SOURCE 700
+#include <stdio.h>
+#include <string.h>
+#include <ucontext.h>
+
+#include "juzvanec.h"
+
+static uint8_t stack[65536];
+static void (*call)(void);
+
+/* What is lent, and what comes back. */
+static struct juzvanec_board board, as_booted;
+static uint16_t table[JUZVANEC_MOST_FRAMES], moves[JUZVANEC_MOVE_WORDS * JUZVANEC_MOST_FRAMES];
+static struct juzvanec_vcpu vcpus[JUZVANEC_MOST_VCPUS];
+static struct juzvanec_task tasks[JUZVANEC_MOST_TASKS];
+static uint32_t times[JUZVANEC_MOST_VCPUS + JUZVANEC_MOST_TASKS], first, second, row;
+static uint8_t input[4096], text[JUZVANEC_TEXT_BYTES];
+static size_t input_bytes, start, length;
+
+static void nothing(void)
+{
+}
+
+static void call_interface(void)
+{
+    first = juzvanec_interface();
+}
+
+static void call_cache_colours(void)
+{
+    juzvanec_cache_colours(1048576, 16, &first, &row);
+}
+
+static void call_layout(void)
+{
+    juzvanec_layout(board.colours, 0xA5A5, 123456, &first, &row);
+}
+
+static void call_bleach(void)
+{
+    juzvanec_bleach(board.colours, 0xFFFF, 123456, &first, &row);
+}
+
+static void call_look(void)
+{
+    juzvanec_look(&board, table, board.frames, 1, 5, &first, &second, &row);
+}
+
+static void call_fault(void)
+{
+    juzvanec_fault(&board, table, board.frames, 1, 4000, &first, &second, &row);
+}
+
+static void call_release(void)
+{
+    juzvanec_release(&board, table, board.frames, 1, 5, &first, &row);
+}
+
+static void call_colours(void)
+{
+    juzvanec_colours(&board, table, board.frames, 1, &first, &row);
+}
+
+static void call_recolour(void)
+{
+    juzvanec_recolour(&board, table, board.frames, 1, 0x8, moves, sizeof moves / sizeof *moves, &first, &row);
+}
+
+static void call_part(void)
+{
+    juzvanec_part(juzvanec_tasks_as_words(tasks), sizeof tasks / 4, 15, &start, &length);
+}
+
+static void call_admit_plan(void)
+{
+    juzvanec_admit_plan(&board, 100, juzvanec_vcpus_as_words(vcpus), sizeof vcpus / 4,
+                        juzvanec_tasks_as_words(tasks), sizeof tasks / 4, times, sizeof times / 4, &row);
+}
+
+static void call_admit(void)
+{
+    juzvanec_admit(input, input_bytes, text, &first, &second, &row);
+}
+
+static void enter(void)
+{
+    call();
+}
+
+/* The bytes of the painted stack that a call changes. */
+static size_t changed(void (*called)(void), uint8_t paint)
+{
+    static ucontext_t outside, inside;
+    size_t untouched = 0;
+
+    memset(stack, paint, sizeof stack);
+    call = called;
+    getcontext(&inside);
+    inside.uc_stack.ss_sp = stack;
+    inside.uc_stack.ss_size = sizeof stack;
+    inside.uc_link = &outside;
+    makecontext(&inside, enter, 0);
+    swapcontext(&outside, &inside);
+    while (untouched < sizeof stack && stack[untouched] == paint)
+        untouched++;
+    return sizeof stack - untouched;
+}
+
+static void put(const void *words, size_t bytes)
+{
+    memcpy(input + input_bytes, words, bytes);
+    input_bytes += bytes;
+}
+
+/* Every domain, VCPU, task and frame that there may be; domain 1 holds half of its frames. */
+static void boot(void)
+{
+    uint32_t i, k;
+
+    as_booted.colours = JUZVANEC_MOST_COLOURS;
+    as_booted.frames = JUZVANEC_MOST_FRAMES;
+    as_booted.domains = JUZVANEC_MOST_DOMAINS;
+    for (i = 0; i < JUZVANEC_MOST_DOMAINS; i++)
+        as_booted.grants[i] = as_booted.active[i] = 3u << 2 * i;
+    for (i = 0; i < JUZVANEC_MOST_FRAMES; i++)
+        table[i] = i % 16 == 2 ? JUZVANEC_PAGE_WORD(1, i / 16) : JUZVANEC_FREE;
+    for (i = 0; i < JUZVANEC_MOST_VCPUS; i++) {
+        vcpus[i].core = i % JUZVANEC_CORES;
+        vcpus[i].domain = i / 2;
+        vcpus[i].period = 1000;
+        vcpus[i].budget = 250;
+    }
+    for (i = 0; i < JUZVANEC_MOST_TASKS; i++) {
+        tasks[i].vcpu = i / 2;
+        tasks[i].period = tasks[i].deadline = JUZVANEC_MOST_TIME;
+        tasks[i].set = 1u << i / 2;
+        for (k = 0; k < JUZVANEC_MOST_COLOURS; k++)
+            tasks[i].costs[k] = 120000;
+    }
+}
+
+/* The way in which the board or the plan is at fault; the input of `admit` is made of it. */
+static void spoil(unsigned fault)
+{
+    uint32_t counts[2] = {100, JUZVANEC_MOST_VCPUS}, rows = JUZVANEC_MOST_TASKS;
+
+    boot();
+    if (fault == 1)
+        as_booted.grants[7] = as_booted.active[7] = 0;
+    if (fault == 2)
+        as_booted.grants[7] = as_booted.active[7] = 0x1;
+    if (fault == 3)
+        as_booted.active[7] = 0x1;
+    if (fault == 4)
+        as_booted.frames = 0;
+    if (fault == 5)
+        vcpus[15].budget = 0;
+    if (fault == 6)
+        tasks[31].costs[15] = 0;
+    if (fault == 7)
+        tasks[31].set = 0xC000;
+    if (fault == 8)
+        vcpus[15].budget = 251;
+    if (fault == 9)
+        tasks[31].costs[0] = 200000;
+    input_bytes = 0;
+    put(&as_booted, 12);
+    put(as_booted.grants, sizeof as_booted.grants);
+    put(counts, sizeof counts);
+    put(vcpus, sizeof vcpus);
+    put(&rows, sizeof rows);
+    put(tasks, fault == 10 ? 1 : sizeof tasks);
+}
+
+/* The most that the function takes beyond a call of nothing, over all inputs. */
+static size_t most(void (*called)(void))
+{
+    size_t deepest = 0, base, bytes;
+    unsigned fault, paint;
+
+    for (fault = 0; fault <= 10; fault++)
+        for (paint = 0x5A; paint <= 0xA5; paint += 0xA5 - 0x5A) {
+            spoil(fault);
+            board = as_booted;
+            base = changed(nothing, (uint8_t)paint);
+            bytes = changed(called, (uint8_t)paint);
+            if (bytes > base && bytes - base > deepest)
+                deepest = bytes - base;
+        }
+    return deepest;
+}
+
+#define FUNCTION(name) {"juzvanec_" #name, call_##name}
+
+int main(void)
+{
+    static const struct {
+        const char *name;
+        void (*called)(void);
+    } functions[] = {FUNCTION(interface), FUNCTION(cache_colours), FUNCTION(layout),   FUNCTION(bleach),
+                     FUNCTION(look),      FUNCTION(fault),         FUNCTION(release),  FUNCTION(colours),
+                     FUNCTION(recolour),  FUNCTION(part),          FUNCTION(admit_plan), FUNCTION(admit)};
+    size_t said, bytes, others = 0, deepest = 0;
+    unsigned i;
+    int wrong = 0;
+
+    for (i = 0; i < sizeof functions / sizeof *functions; i++) {
+        bytes = most(functions[i].called);
+        printf("%s: %lu bytes of stack\n", functions[i].name, (unsigned long)bytes);
+        said = functions[i].called == call_admit ? README_MOST : README_OTHERS;
+        if (bytes > said) {
+            printf("the README says %lu\n", (unsigned long)said);
+            wrong = 1;
+        }
+        if (functions[i].called == call_admit)
+            deepest = bytes;
+        else if (bytes > others)
+            others = bytes;
+    }
+    if (deepest + 512 < README_MOST || others + 512 < README_OTHERS) {
+        printf("the README says far more: %lu and %lu\n", (unsigned long)README_MOST,
+               (unsigned long)README_OTHERS);
+        wrong = 1;
+    }
+    return wrong;
+}
