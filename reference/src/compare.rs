@@ -8,7 +8,7 @@ use std::time::Duration;
 use crate::admit::{judge, Verdict};
 use crate::pipe::{any_pieces, run, Outcome, Piece};
 use crate::random::Random;
-use crate::random_inputs::any_input;
+use crate::random_inputs::{any_input, edges};
 use crate::vectors::admit_inputs;
 
 /// Of so many differences the input and both outputs are printed.
@@ -17,17 +17,18 @@ const PRINTED: u32 = 3;
 /// After so many inputs on which the program did not end, no more are tried.
 const MOST_LATE: u32 = 3;
 
-/// Runs the program (its path, and any arguments) on so many inputs, one in four of them from the vectors
-/// as long as these last, with a time limit for each.
+/// Runs the program (its path, and any arguments) on so many inputs, with a time limit for each: those about as
+/// long as the longest plan first, and of the others one in four from the vectors as long as these last.
 pub fn compare(program: &[&str], cases: u32, seed: u64, limit: Duration) -> io::Result<Tally> {
     let mut random = Random::new(seed);
+    let mut first = edges(&mut random).into_iter();
     let mut of_vectors = admit_inputs(seed).into_iter();
     let mut tally = Tally::default();
     while tally.cases < cases && tally.late < MOST_LATE {
-        let next = match random.below(4) {
+        let next = first.next().or_else(|| match random.below(4) {
             0 => of_vectors.next(),
             _ => None,
-        };
+        });
         let input = next.unwrap_or_else(|| any_input(&mut random));
         let pieces = any_pieces(&mut random, input.len());
         let outcome = run(program, input.clone(), pieces.clone(), limit)?;

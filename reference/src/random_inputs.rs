@@ -34,6 +34,21 @@ pub fn any_input(random: &mut Random) -> Vec<u8> {
     }
 }
 
+/// Inputs about as long as the longest may be: a plan of full size, admitted, without its last byte, whole, and
+/// with a byte more, two or a word, which are zeros or not.
+pub fn edges(random: &mut Random) -> Vec<Vec<u8>> {
+    let whole = input(&largest(random));
+    let mut inputs = vec![whole[..whole.len() - 1].to_vec(), whole.clone()];
+    for byte in [0, 1, 255] {
+        for more in [1, 2, 4] {
+            let mut longer = whole.clone();
+            longer.resize(whole.len() + more, byte);
+            inputs.push(longer);
+        }
+    }
+    inputs
+}
+
 /// An admitted plan, small as a rule, at times as large or with periods as long as they may be.
 fn any_plan(random: &mut Random) -> Plan {
     let (vcpus, tasks) = match random.below(20) {
@@ -247,6 +262,23 @@ mod tests {
     use super::*;
     use crate::admit::{judge, Verdict};
     use std::collections::BTreeMap;
+
+    /// The plan alone is admitted, and with a byte less or more it is refused.
+    #[test]
+    fn edges_about_the_longest_plan() {
+        let inputs = edges(&mut Random::new(crate::SEED));
+        for length in [2871, 2872, 2873, 2874] {
+            let mut some = inputs.iter().filter(|input| input.len() == length);
+            assert!(some.next().is_some(), "{length}");
+        }
+        for input in inputs {
+            let verdict = judge(&input);
+            match input.len() {
+                MOST_BYTES => assert!(matches!(verdict, Verdict::Admitted { .. })),
+                _ => assert_eq!(verdict, Verdict::Refused { number: 1, row: 0 }),
+            }
+        }
+    }
 
     /// Admitted plans and every refusal that the program can give are among them.
     #[test]

@@ -47,9 +47,16 @@ fn the_tool_and_programs_that_spoil_its_answers() {
     ];
     let (printed, good) = compare(&same, "200");
     assert_eq!((differences(&printed, 200), good), (0, true), "{printed}");
-    for program in spoilt {
-        let (printed, good) = compare(&program, "200");
-        assert!(differences(&printed, 200) > 0, "{}", program.display());
+    // the first inputs are about as long as the longest plan
+    let soon = [
+        script("byte_too_many", "head -c 2872 | admit"),
+        script("no_input", "admit </dev/null"),
+        script("no_output", "admit >/dev/null"),
+    ];
+    let spoilt = spoilt.iter().map(|program| (program, 200));
+    for (program, cases) in spoilt.chain(soon.iter().map(|program| (program, 12))) {
+        let (printed, good) = compare(program, &cases.to_string());
+        assert!(differences(&printed, cases) > 0, "{}", program.display());
         assert!(printed.contains("expected:\n"));
         assert!(!good);
     }

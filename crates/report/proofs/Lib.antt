@@ -3,3 +3,4 @@ pub mod Decimal
 pub mod Lines
 pub mod Words
 pub mod Verdict
+pub mod LongInputs

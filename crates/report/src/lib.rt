@@ -1,14 +1,15 @@
 // The program `admit` from the bytes of its input to the bytes of its output: document 01, "Examples from
-// the recorder", and refusal 1. `report` answers a whole input; `plan_extent` says how many words the plan in
-// front of an input takes, for callers that read several in a row.
+// the recorder", and refusal 1. `answer` is what the program calls, and `report` answers an input of any length;
+// `plan_extent` says how many words the plan in front of an input takes, for callers that read several in a row.
 mod input;
 mod text;
 
 ghost use mathlib.Core.Path.{_≡_};
-ghost use Prim.Native.Nat.{_≤_};
+ghost use Prim.Native.Nat.{ℕ, _≤_};
 ghost use mathlib.Core.Bool.{false, _||_};
 ghost use lib.Dec.{ltb};
-ghost use lib.ListN.{length};
+ghost use mathlib.Core.List.{List};
+ghost use lib.ListN.{length, take};
 ghost use Rattle.admission.specs.Paper.{paperAdmission};
 ghost use Rattle.report.specs.Paper.{paperExtent};
 ghost use Rattle.report.specs.Report.{extentReply, notAPlan, verdict, wordsTaken, textOf};
@@ -19,6 +20,9 @@ use crate::text::write_admitted;
 use crate::text::write_refused;
 use admission::Admission;
 use refusal::Refusal;
+
+// The longest plan has 718 words. One byte more tells an input that is too long, whatever follows it.
+pub const INPUT_BYTES: usize = 2873;
 
 const MOST_DOMAINS: usize = 8;
 
@@ -84,6 +88,25 @@ pub fn report(input: &[u8], text: &mut [u8; 1024]) -> Reported
         };
     }
     report_plan(input, words, text)
+}
+
+// What the program does between reading and writing: the text for an input, of which the array has the first
+// bytes, and the text's length. `read` says how many bytes these are, and a number beyond the array means all of
+// it. The last clause says that the rest of the input does not matter: an input that is longer than the array
+// has the same text, whatever follows.
+pub fn answer(input: &[u8; INPUT_BYTES], read: usize, text: &mut [u8; 1024]) -> usize
+    ensures { λ r. ⌜ (r ≡ length (textOf (take read (now (input .entry))))) × (r ≤ length (now (text .exit))) ⌝ }
+    ensures { λ r. ⌜ now (text .exit) ≡ over (textOf (take read (now (input .entry)))) (now (text .entry)) ⌝ }
+    ensures { λ r. ⌜ ((whole : List ℕ) → take (length (now (input .entry))) whole ≡ take read (now (input .entry)) → textOf whole ≡ textOf (take read (now (input .entry)))) ⌝ }
+{
+    let bytes: &[u8] = input;
+    let kept = if read < INPUT_BYTES {
+        read
+    } else {
+        INPUT_BYTES
+    };
+    let reported = report(&bytes[..kept], text);
+    reported.length as usize
 }
 
 // How many words an input has that is one plan and nothing else, or 0.
