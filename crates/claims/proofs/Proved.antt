@@ -11,6 +11,7 @@ use Rattle.supply.proofs.Laws as law
 use Rattle.times.proofs.Planner as planner
 use Rattle.times.proofs.Added.{added-rows-change-nothing}
 use Rattle.examples.proofs.Claim.{claim}
+use Rattle.report.proofs.LongInputs.{first-bytes-tell}
 use Rattle.juzvanec.proofs.Lent as lent
 use Rattle.claims.specs.Colours.{ColourClaims}
 use Rattle.claims.specs.Histories.{HistoryClaims}
@@ -77,7 +78,13 @@ time-claims =
 
 interface-claims : InterfaceClaims
 interface-claims =
-    record { words-back = lent.words-back; board-back = lent.board-back; one-word = lent.one-word; words-stand = lent.words-stand }
+    record {
+      words-back = lent.words-back;
+      board-back = lent.board-back;
+      one-word = lent.one-word;
+      words-stand = lent.words-stand;
+      first-bytes-tell = first-bytes-tell;
+    }
 
 pub claims : Claims
 claims =

@@ -1,11 +1,12 @@
--- What the C interface claims beyond its contracts: the 19 words of a board and the board stand for each other, and an accepted recolouring
--- changes one word of it.
+-- What the C interface and the program claim beyond the contracts: the 19 words of a board and the board stand for each other, an accepted
+-- recolouring changes one word of it, and the bytes that the program keeps of its input tell the text of the whole.
 use Prim.Native.Nat.{ℕ, _+_}
 use mathlib.Core.List.{List}
 use mathlib.Core.Path.{_≡_}
-use lib.ListN.{length, set}
+use lib.ListN.{length, set, take}
 use Rattle.board.specs.declared.Board.{Board}
 use Rattle.calls.specs.Calls.{withActive, recolour}
+use Rattle.report.specs.Report.{textOf}
 use Rattle.juzvanec.specs.Words.{boardOf, boardWords, wordsLeft, lent}
 
 pub record InterfaceClaims : Type 0 where
@@ -18,3 +19,5 @@ pub record InterfaceClaims : Type 0 where
   pub words-stand :
       (ws table moves : List ℕ) (d c : ℕ)
       → boardOf (wordsLeft (recolour (lent ws table) d c moves) ws) ≡ recolour (lent ws table) d c moves .next .board
+  -- The program keeps the first 2,873 bytes of its input: a longer one has the same text.
+  pub first-bytes-tell : (input : List ℕ) → textOf (take 2873 input) ≡ textOf input
