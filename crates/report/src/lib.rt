@@ -100,11 +100,8 @@ pub fn answer(input: &[u8; INPUT_BYTES], read: usize, text: &mut [u8; 1024]) -> 
     ensures { λ r. ⌜ ((whole : List ℕ) → take (length (now (input .entry))) whole ≡ take read (now (input .entry)) → textOf whole ≡ textOf (take read (now (input .entry)))) ⌝ }
 {
     let bytes: &[u8] = input;
-    let kept = if read < INPUT_BYTES {
-        read
-    } else {
-        INPUT_BYTES
-    };
+    let all = bytes.len();
+    let kept = if read < all { read } else { all };
     let reported = report(&bytes[..kept], text);
     reported.length as usize
 }
