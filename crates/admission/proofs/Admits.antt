@@ -10,11 +10,11 @@ use Rattle.refusal.proofs.Replies.{answers-passed}
 use Rattle.refusal.proofs.Order.{unless-refused, unless-passed, unless-each}
 use Rattle.board.specs.declared.Board.{Board}
 use Rattle.board.specs.Tests.{boardTests, boardReply}
-use Rattle.plan.specs.Rows.{vcpuRows, taskRows}
+use Rattle.rows.specs.Words.{vcpuRows, taskRows}
 use Rattle.plan.specs.Tests.{planTests, planReply}
 use Rattle.plan.proofs.Accepted.{accepted, costed}
 use Rattle.times.specs.Times.{taskTime, vcpuTime}
-use Rattle.times.specs.Valid.{Plan}
+use Rattle.rows.specs.Valid.{Plan}
 use Rattle.admission.specs.Admission.{isLate, timeTests, admissionReply}
 
 -- what it gives that the board and the plan pass 2 to 7 and 15 to 20

@@ -4,12 +4,12 @@ use native.Mathlib.Omega.{arith}
 use mathlib.Core.List.{List}
 use mathlib.Core.Path.{_≡_, refl}
 use Rattle.supply.specs.Supply.{Budget}
-use Rattle.plan.specs.Rows.{vcpuPeriod, budget, vcpuOf, taskRows}
-use Rattle.plan.specs.Part.{partStart, partEnd, partOf}
-use Rattle.plan.proofs.Parts.{part-length, part-word, row-in-part}
+use Rattle.rows.specs.Words.{vcpuPeriod, budget, vcpuOf, taskRows}
+use Rattle.rows.specs.Part.{partStart, partEnd, partOf}
+use Rattle.rows.proofs.Parts.{part-length, part-word, row-in-part}
 use Rattle.times.specs.Times.{timeInPart, taskTime}
-use Rattle.times.specs.Valid.{TaskRows, Plan}
-use Rattle.times.proofs.PartRows.{part-row}
+use Rattle.rows.specs.Valid.{TaskRows, Plan}
+use Rattle.rows.proofs.PartRows.{part-row}
 
 pub record Fit (vcpus tasks : List ℕ) (j : ℕ) : Type 0 where
   pub start : partStart tasks (vcpuOf tasks j) ≤ j

@@ -11,7 +11,7 @@ use Rattle.lists.proofs.Found.{sought-le}
 use Rattle.lists.proofs.Written.{length-table}
 use Rattle.refusal.specs.Reply.{Answers, Refuses}
 use Rattle.board.specs.declared.Board.{Board}
-use Rattle.plan.specs.Rows.{vcpuRows, taskRows}
+use Rattle.rows.specs.Words.{vcpuRows, taskRows}
 use Rattle.times.specs.Times.{taskTime, vcpuTime}
 use Rattle.admission.specs.Admission.{isLate, microseconds, admissionReply, vcpuTimes, taskTimes, timesAfter}
 

@@ -2,16 +2,16 @@
 // row order to a lent list. The need of a row and the search for its time are in `need` and `search`.
 mod need;
 mod read;
-mod rows;
+mod row_times;
 mod search;
 
 ghost use mathlib.Core.Path.{_≡_};
 ghost use lib.ListN.{length};
 ghost use Rattle.admission.specs.Admission.{admissionReply, timesAfter};
 ghost use Rattle.admission.specs.Paper.{paperAdmission};
-use crate::rows::task_times;
-use crate::rows::vcpu_times;
-use crate::rows::write_times;
+use crate::row_times::task_times;
+use crate::row_times::vcpu_times;
+use crate::row_times::write_times;
 use board::Board;
 use board::Checked;
 use board::check_board;

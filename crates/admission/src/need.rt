@@ -4,7 +4,7 @@ ghost use mathlib.Core.Path.{_≡_};
 ghost use Prim.Native.Nat.{_≤_, _<_};
 ghost use Rattle.times.specs.Need.{arrivals as arrivalsOf};
 ghost use Rattle.times.specs.Times.{charge as chargeOf, taskNeed, vcpuNeed};
-ghost use Rattle.times.specs.Valid.{TaskRow, TaskRows, VcpuRows};
+ghost use Rattle.rows.specs.Valid.{TaskRow, TaskRows, VcpuRows};
 use crate::read::cost_at;
 use crate::read::task_at;
 use crate::read::vcpu_at;

@@ -3,8 +3,8 @@
 ghost use mathlib.Core.Path.{_≡_};
 ghost use Prim.Native.Nat.{_+_, _*_, _<_};
 ghost use lib.ListN.{length};
-ghost use Rattle.plan.specs.Rows.{vcpuWord, taskWord, cost as costOf};
-ghost use Rattle.times.specs.Valid.{TaskRow};
+ghost use Rattle.rows.specs.Words.{vcpuWord, taskWord, cost as costOf};
+ghost use Rattle.rows.specs.Valid.{TaskRow};
 
 // Word k of a VCPU's row.
 pub(crate) fn vcpu_at(vcpus: &[u32], row: u32, k: u32) -> u32

@@ -13,8 +13,8 @@ use Rattle.colours.specs.Sets.{isColourSet, has, coloursBelow, colourAt, placeO
 use Rattle.colours.specs.Cache.{isColourCount, cacheReply}
 use Rattle.colours.specs.Pages.{layoutPage, layoutReply, bleachIndex, bleachReply, dropBits, equationOne}
 use Rattle.supply.specs.Supply.{supply}
-use Rattle.plan.specs.Rows.{cost, colours-shared}
-use Rattle.plan.specs.Part.{partStart, partEnd, partOf}
+use Rattle.rows.specs.Words.{cost, colours-shared}
+use Rattle.rows.specs.Part.{partStart, partEnd, partOf}
 use Rattle.plan.specs.Tests.{planTests}
 use Rattle.times.specs.First.{firstFrom, firstTime}
 use Rattle.times.specs.Need.{arrivals, need}

@@ -2,7 +2,7 @@
 ghost use mathlib.Core.Path.{_≡_};
 ghost use Prim.Native.Nat.{_*_};
 ghost use lib.ListN.{length as lengthOf};
-ghost use Rattle.plan.specs.Part.{partStart, partOf};
+ghost use Rattle.rows.specs.Part.{partStart, partOf};
 ghost use Rattle.admission.specs.Admission.{admissionReply, timesAfter};
 ghost use Rattle.juzvanec.specs.Words.{boardOf};
 ghost use Rattle.juzvanec.specs.Replies.{numberOf, rowOf};
@@ -15,8 +15,8 @@ pub extern "C" fn juzvanec_part(tasks: &[u32], vcpu: u32, start: &mut usize, len
     ensures { λ _. ⌜ now (start .exit) ≡ 20 * partStart (now (tasks .entry)) vcpu ⌝ }
     ensures { λ _. ⌜ now (length .exit) ≡ lengthOf (partOf (now (tasks .entry)) vcpu) ⌝ }
 {
-    let part = plan::part(tasks, vcpu);
-    *start = 20 * plan::part_start(tasks, vcpu);
+    let part = rows::part(tasks, vcpu);
+    *start = 20 * rows::part_start(tasks, vcpu);
     *length = part.len();
 }
 

@@ -1,4 +1,2 @@
--- The definitions of `plan`: rows, the part of a VCPU, and the tests of a plan.
-pub mod Rows
-pub mod Part
+-- The definitions of `plan`: the tests of a plan.
 pub mod Tests

@@ -9,7 +9,7 @@ use Rattle.lists.specs.Range.{from, upto, any}
 use Rattle.refusal.specs.Reply.{Reply, Test, test, each, unless}
 use Rattle.board.specs.declared.Board.{Board}
 use Rattle.board.specs.Tests.{grant, shares, emptyOrOutside}
-use Rattle.plan.specs.Rows.{core, domain, vcpuPeriod, budget, vcpuOf, taskPeriod, deadline, colourSet, costWith, vcpuRows, taskRows}
+use Rattle.rows.specs.Words.{core, domain, vcpuPeriod, budget, vcpuOf, taskPeriod, deadline, colourSet, costWith, vcpuRows, taskRows}
 
 -- a number is 0 or above a limit
 abbrev pub zeroOrAbove : ℕ → ℕ → Bool
@@ -25,12 +25,14 @@ abbrev pub taskWordsTest : List ℕ → List ℕ → ℕ → Test
 taskWordsTest vcpus tasks room =
     test 16 (zeroOrAbove 640 (length tasks) || (not (eqb (length tasks % 20) 0) || ltb room (vcpuRows vcpus + taskRows tasks)))
 
+-- a period outside 1 to 1,000,000, or a time outside 1 to the period
+abbrev pub badTimes : ℕ → ℕ → Bool
+badTimes period time = zeroOrAbove 1000000 period || zeroOrAbove period time
+
 -- 17: core 0 to 3, domain below the count, period 1 to 1,000,000, budget 1 to the period
 abbrev pub badVcpu : Board → List ℕ → ℕ → Bool
 badVcpu b vcpus i =
-    ltb 3 (core vcpus i)
-    || (not (ltb (domain vcpus i) (b .domains))
-    || (zeroOrAbove 1000000 (vcpuPeriod vcpus i) || zeroOrAbove (vcpuPeriod vcpus i) (budget vcpus i)))
+    ltb 3 (core vcpus i) || (not (ltb (domain vcpus i) (b .domains)) || badTimes (vcpuPeriod vcpus i) (budget vcpus i))
 
 -- a cost outside 1 to 1,000,000, or above the one before
 abbrev pub badCost : List ℕ → ℕ → ℕ → Bool
@@ -41,26 +43,27 @@ badCost tasks j k =
 abbrev pub badTask : Board → List ℕ → List ℕ → ℕ → Bool
 badTask b vcpus tasks j =
     not (ltb (vcpuOf tasks j) (vcpuRows vcpus))
-    || (zeroOrAbove 1000000 (taskPeriod tasks j)
-    || (zeroOrAbove (taskPeriod tasks j) (deadline tasks j)
-    || (emptyOrOutside (grant b (domain vcpus (vcpuOf tasks j))) (colourSet tasks j) || any (badCost tasks j) (from 1 16))))
+    || (badTimes (taskPeriod tasks j) (deadline tasks j)
+    || (emptyOrOutside (grant b (domain vcpus (vcpuOf tasks j))) (colourSet tasks j) || any (badCost tasks j) (from 1 16)))
 
 -- 19: it names a lower VCPU than the row before
-abbrev pub descends : List ℕ → ℕ → Bool
-descends tasks j = ltb 0 j && ltb (vcpuOf tasks j) (vcpuOf tasks (j - 1))
+abbrev pub lowerVcpu : List ℕ → ℕ → Bool
+lowerVcpu tasks j = ltb 0 j && ltb (vcpuOf tasks j) (vcpuOf tasks (j - 1))
 
 -- 20: it shares a colour with a row of another VCPU
-abbrev pub sharesColour : List ℕ → ℕ → Bool
-sharesColour tasks j =
+abbrev pub sharedColour : List ℕ → ℕ → Bool
+sharedColour tasks j =
     any (λ (k : ℕ). not (eqb (vcpuOf tasks k) (vcpuOf tasks j)) && shares (colourSet tasks j) (colourSet tasks k)) (upto (taskRows tasks))
 
-unfoldable pub planTests : Board → ℕ → List ℕ → List ℕ → ℕ → List Test
-planTests b reload vcpus tasks room =
-    vcpuWordsTest reload vcpus
-    ∷ taskWordsTest vcpus tasks room
-    ∷ (each (vcpuRows vcpus) 17 (badVcpu b vcpus)
+-- 17 to 20, each over all rows before the next
+unfoldable pub rowTests : Board → List ℕ → List ℕ → List Test
+rowTests b vcpus tasks =
+    each (vcpuRows vcpus) 17 (badVcpu b vcpus)
     ++ (each (taskRows tasks) 18 (badTask b vcpus tasks)
-    ++ (each (taskRows tasks) 19 (descends tasks) ++ each (taskRows tasks) 20 (sharesColour tasks))))
+    ++ (each (taskRows tasks) 19 (lowerVcpu tasks) ++ each (taskRows tasks) 20 (sharedColour tasks)))
+
+unfoldable pub planTests : Board → ℕ → List ℕ → List ℕ → ℕ → List Test
+planTests b reload vcpus tasks room = vcpuWordsTest reload vcpus ∷ taskWordsTest vcpus tasks room ∷ rowTests b vcpus tasks
 
 unfoldable pub planReply : Board → ℕ → List ℕ → List ℕ → ℕ → Reply (Unit {0})
 planReply b reload vcpus tasks room = unless (planTests b reload vcpus tasks room) tt

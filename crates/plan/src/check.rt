@@ -2,27 +2,24 @@
 // all rows before the next, and the lowest row at fault is named. A function that looks for a row
 // gives the number of rows where none is at fault.
 ghost use mathlib.Core.Path.{_≡_};
-ghost use mathlib.Core.List.{_++_};
 ghost use Prim.Native.Nat.{_≤_};
 ghost use lib.ListN.{length};
 ghost use Rattle.lists.specs.Range.{lowest};
-ghost use Rattle.refusal.specs.Reply.{each, unless};
+ghost use Rattle.refusal.specs.Reply.{unless};
 ghost use Rattle.board.specs.Paper.{paperChecked};
-ghost use Rattle.plan.specs.Rows.{vcpuRows, taskRows};
-ghost use Rattle.plan.specs.Tests.{badVcpu, badTask, descends as isLower, sharesColour, planReply};
+ghost use Rattle.rows.specs.Words.{taskRows};
+ghost use Rattle.plan.specs.Tests.{badVcpu, badTask, lowerVcpu, sharedColour, rowTests, planReply};
 use crate::fields::bad_task;
 use crate::fields::bad_vcpu;
-use crate::fields::descends;
-use crate::fields::shares_colour;
+use crate::fields::lower_vcpu;
+use crate::fields::shared_colour;
 use board::Board;
 use board::Checked;
 use refusal::Refusal;
+use rows::TASK_WORDS;
+use rows::VCPU_WORDS;
 
 const MOST_RELOAD: u32 = 10000;
-
-const VCPU_WORDS: usize = 4;
-
-const TASK_WORDS: usize = 20;
 
 // Sixteen VCPUs and thirty-two tasks.
 const MOST_VCPU_WORDS: usize = 64;
@@ -34,15 +31,12 @@ pub fn check_plan(board: Board, reload: u32, vcpus: &[u32], tasks: &[u32], room:
     ensures { λ r. ⌜ paperChecked r ≡ planReply board reload (now (vcpus .entry)) (now (tasks .entry)) room ⌝ }
 {
     let v = vcpus.len();
-    if MOST_RELOAD < reload || v == 0 || MOST_VCPU_WORDS < v || v % VCPU_WORDS != 0 {
+    if (MOST_RELOAD < reload) | ((v == 0) | (MOST_VCPU_WORDS < v) | (v % VCPU_WORDS != 0)) {
         return Checked::Refused(Refusal { number: 15, row: 0 });
     }
     let t = tasks.len();
-    if t == 0
-        || MOST_TASK_WORDS < t
-        || t % TASK_WORDS != 0
-        || room < v / VCPU_WORDS + t / TASK_WORDS
-    {
+    let rows = v / VCPU_WORDS + t / TASK_WORDS;
+    if (t == 0) | (MOST_TASK_WORDS < t) | ((t % TASK_WORDS != 0) | (room < rows)) {
         return Checked::Refused(Refusal { number: 16, row: 0 });
     }
     check_rows(board, vcpus, tasks)
@@ -50,10 +44,10 @@ pub fn check_plan(board: Board, reload: u32, vcpus: &[u32], tasks: &[u32], room:
 
 fn check_rows(board: Board, vcpus: &[u32], tasks: &[u32]) -> Checked
     requires { ⌜ (length (now vcpus) ≤ 64) × (length (now tasks) ≤ 640) ⌝ }
-    ensures { λ r. ⌜ paperChecked r ≡ unless (each (vcpuRows (now (vcpus .entry))) 17 (badVcpu board (now (vcpus .entry))) ++ (each (taskRows (now (tasks .entry))) 18 (badTask board (now (vcpus .entry)) (now (tasks .entry))) ++ (each (taskRows (now (tasks .entry))) 19 (isLower (now (tasks .entry))) ++ each (taskRows (now (tasks .entry))) 20 (sharesColour (now (tasks .entry)))))) tt ⌝ }
+    ensures { λ r. ⌜ paperChecked r ≡ unless (rowTests board (now (vcpus .entry)) (now (tasks .entry))) tt ⌝ }
 {
     let vcpu_rows = (vcpus.len() / VCPU_WORDS) as u32;
-    let vcpu = wrong_vcpu(board, vcpus, vcpu_rows);
+    let vcpu = first_bad_vcpu(board, vcpus, vcpu_rows);
     if vcpu < vcpu_rows {
         return Checked::Refused(Refusal {
             number: 17,
@@ -61,21 +55,21 @@ fn check_rows(board: Board, vcpus: &[u32], tasks: &[u32]) -> Checked
         });
     }
     let rows = (tasks.len() / TASK_WORDS) as u32;
-    let task = wrong_task(board, vcpus, tasks, rows);
+    let task = first_bad_task(board, vcpus, tasks, rows);
     if task < rows {
         return Checked::Refused(Refusal {
             number: 18,
             row: task,
         });
     }
-    let lower = lower_vcpu(tasks, rows);
+    let lower = first_lower_vcpu(tasks, rows);
     if lower < rows {
         return Checked::Refused(Refusal {
             number: 19,
             row: lower,
         });
     }
-    let sharing = shared_colour(tasks, rows);
+    let sharing = first_shared_colour(tasks, rows);
     if sharing < rows {
         return Checked::Refused(Refusal {
             number: 20,
@@ -86,7 +80,7 @@ fn check_rows(board: Board, vcpus: &[u32], tasks: &[u32]) -> Checked
 }
 
 // 17: the lowest VCPU row with a field outside its range.
-fn wrong_vcpu(board: Board, vcpus: &[u32], rows: u32) -> u32
+fn first_bad_vcpu(board: Board, vcpus: &[u32], rows: u32) -> u32
     ensures { λ r. ⌜ r ≡ lowest (badVcpu board (now (vcpus .entry))) rows ⌝ }
 {
     let mut i: u32 = 0;
@@ -100,7 +94,7 @@ fn wrong_vcpu(board: Board, vcpus: &[u32], rows: u32) -> u32
 }
 
 // 18: the lowest task row with a field or cost outside its rule.
-fn wrong_task(board: Board, vcpus: &[u32], tasks: &[u32], rows: u32) -> u32
+fn first_bad_task(board: Board, vcpus: &[u32], tasks: &[u32], rows: u32) -> u32
     requires { ⌜ rows ≡ taskRows (now tasks) ⌝ }
     ensures { λ r. ⌜ r ≡ lowest (badTask board (now (vcpus .entry)) (now (tasks .entry))) rows ⌝ }
 {
@@ -115,12 +109,12 @@ fn wrong_task(board: Board, vcpus: &[u32], tasks: &[u32], rows: u32) -> u32
 }
 
 // 19: the lowest task row that names a lower VCPU than the row before.
-fn lower_vcpu(tasks: &[u32], rows: u32) -> u32
-    ensures { λ r. ⌜ r ≡ lowest (isLower (now (tasks .entry))) rows ⌝ }
+fn first_lower_vcpu(tasks: &[u32], rows: u32) -> u32
+    ensures { λ r. ⌜ r ≡ lowest (lowerVcpu (now (tasks .entry))) rows ⌝ }
 {
     let mut j: u32 = 0;
     while j < rows {
-        if descends(tasks, j) {
+        if lower_vcpu(tasks, j) {
             return j;
         }
         j += 1;
@@ -129,13 +123,13 @@ fn lower_vcpu(tasks: &[u32], rows: u32) -> u32
 }
 
 // 20: the lowest task row that shares a colour with a row of another VCPU.
-fn shared_colour(tasks: &[u32], rows: u32) -> u32
+fn first_shared_colour(tasks: &[u32], rows: u32) -> u32
     requires { ⌜ rows ≡ taskRows (now tasks) ⌝ }
-    ensures { λ r. ⌜ r ≡ lowest (sharesColour (now (tasks .entry))) rows ⌝ }
+    ensures { λ r. ⌜ r ≡ lowest (sharedColour (now (tasks .entry))) rows ⌝ }
 {
     let mut j: u32 = 0;
     while j < rows {
-        if shares_colour(tasks, rows, j) {
+        if shared_colour(tasks, rows, j) {
             return j;
         }
         j += 1;

@@ -13,9 +13,9 @@ use Rattle.lists.specs.Range.{lowestFrom}
 use Rattle.lists.proofs.Split.{below-or-not}
 use Rattle.lists.proofs.Sought.{sought-start}
 use Rattle.lists.proofs.Found.{found, missed, sought-same, sought-beyond}
-use Rattle.plan.specs.Rows.{vcpuOf, colourSet, taskRows}
-use Rattle.plan.specs.Part.{isRowOf, partStart, partEnd, partOf}
-use Rattle.plan.proofs.Parts.{start-le, part-length, part-word}
+use Rattle.rows.specs.Words.{vcpuOf, colourSet, taskRows}
+use Rattle.rows.specs.Part.{isRowOf, partStart, partEnd, partOf}
+use Rattle.rows.proofs.Parts.{start-le, part-length, part-word}
 use Rattle.times.specs.Times.{taskTime}
 use Rattle.times.proofs.Planner.{later-tasks-change-nothing}
 

@@ -13,7 +13,7 @@ use borrow.Author.Tests.{leb-true, leb-false, le-leb}
 use Rattle.lists.proofs.Split.{below-or-not}
 use Rattle.supply.specs.Supply.{supply, Budget}
 use Rattle.supply.proofs.Laws.{supply-budget}
-use Rattle.plan.specs.Rows.{vcpuPeriod, taskWord, taskPeriod, deadline, colourSet, cost, colours-shared}
+use Rattle.rows.specs.Words.{vcpuPeriod, taskWord, taskPeriod, deadline, colourSet, cost, colours-shared}
 use Rattle.times.specs.First.{Time, At, Late, firstTime, NoLater}
 use Rattle.times.specs.Need.{arrivals, need}
 use Rattle.times.specs.Times.{charge, taskNeed, timeInPart, vcpuNeed, vcpuTime}

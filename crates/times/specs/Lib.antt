@@ -2,4 +2,3 @@
 pub mod First
 pub mod Need
 pub mod Times
-pub mod Valid

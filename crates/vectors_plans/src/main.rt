@@ -54,7 +54,7 @@ fn part_case() {
     }
     let tasks = &mut words[..length];
     input::next_words(tasks);
-    output::part(plan::part(tasks, vcpu));
+    output::part(rows::part(tasks, vcpu));
 }
 
 fn supply_case() {

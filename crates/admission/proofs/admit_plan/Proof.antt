@@ -9,7 +9,7 @@ use Rattle.refusal.specs.Reply.{Answers}
 use Rattle.board.specs.Paper.{paperChecked}
 use Rattle.board.specs.Tests.{boardReply}
 use Rattle.plan.specs.Tests.{planReply}
-use Rattle.times.specs.Valid.{Plan}
+use Rattle.rows.specs.Valid.{Plan}
 use Rattle.admission.proofs.Admits.{plan-of, room-of, by-board, by-plan, late-vcpu, late-task, none-late}
 use Rattle.admission.proofs.Written.{refused, admitted}
 use Rattle.admission.proofs.admit_plan.Statement.{statement}

@@ -5,9 +5,9 @@ use native.Mathlib.Omega.{arith}
 use mathlib.Core.Path.{_≡_}
 use lib.Bits.{bitAnd}
 use lib.Count.{ones}
-use Rattle.plan.specs.Rows.{colours-shared}
+use Rattle.rows.specs.Words.{colours-shared}
 use Rattle.times.specs.Times.{charge}
-use Rattle.times.proofs.Rows.{shared-le}
+use Rattle.times.proofs.Bounds.{shared-le}
 use borrow.Author.Needs.{needs}
 use Rattle.admission.proofs.need.charge.Statement.{statement}
 use Rattle.admission.proofs.need.charge.Tie as tie

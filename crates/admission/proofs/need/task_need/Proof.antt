@@ -3,12 +3,12 @@ use Prim.Native.Nat.{ℕ, _+_, _-_, _*_, _≤_}
 use native.Mathlib.Nat.{le-refl, le-trans, mul-le-mul}
 use native.Mathlib.Omega.{arith}
 use mathlib.Core.Path.{_≡_, sym, ap, ap₂, _∙_}
-use Rattle.plan.specs.Rows.{taskPeriod, cost}
+use Rattle.rows.specs.Words.{taskPeriod, cost}
 use Rattle.times.specs.Need.{need}
 use Rattle.times.specs.Times.{charge, taskNeed}
-use Rattle.times.specs.Valid.{TaskRow}
+use Rattle.rows.specs.Valid.{TaskRow}
 use Rattle.times.proofs.Needs.{arrivals-le, need-next}
-use Rattle.times.proofs.Rows.{charge-le, task-need-le}
+use Rattle.times.proofs.Bounds.{charge-le, task-need-le}
 use Rattle.admission.proofs.need.task_need.Statement.{statement}
 use Rattle.admission.proofs.need.task_need.Tie as tie
 

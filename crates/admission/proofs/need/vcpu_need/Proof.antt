@@ -7,12 +7,12 @@ use mathlib.Core.List.{List}
 use mathlib.Core.Logic.{⊎-elim}
 use mathlib.Core.Path.{_≡_, sym, ap, ap₂, _∙_}
 use borrow.Author.Tests.{eq-eqb, ne-eqb}
-use Rattle.plan.specs.Rows.{core, vcpuPeriod, budget}
+use Rattle.rows.specs.Words.{core, vcpuPeriod, budget}
 use Rattle.times.specs.Need.{need}
 use Rattle.times.specs.Times.{vcpuCharge, vcpuNeed}
-use Rattle.times.specs.Valid.{VcpuRow}
+use Rattle.rows.specs.Valid.{VcpuRow}
 use Rattle.times.proofs.Needs.{arrivals-le, need-next}
-use Rattle.times.proofs.Rows.{vcpu-need-le}
+use Rattle.times.proofs.Bounds.{vcpu-need-le}
 use Rattle.admission.proofs.need.vcpu_need.Statement.{statement}
 use Rattle.admission.proofs.need.vcpu_need.Tie as tie
 

@@ -7,10 +7,10 @@ use mathlib.Core.Bool.{false}
 use mathlib.Core.Path.{_≡_, sym}
 use lib.Dec.{leb}
 use Rattle.supply.specs.Supply.{supply, firstSupply}
-use Rattle.plan.specs.Rows.{deadline}
+use Rattle.rows.specs.Words.{deadline}
 use Rattle.times.specs.Times.{taskNeed, timeInPart}
 use Rattle.times.proofs.Search.{Searchable, before-one, next, found, missed, exceeded}
-use Rattle.times.proofs.Rows.{task-search}
+use Rattle.times.proofs.Bounds.{task-search}
 use Rattle.admission.proofs.search.time_in_part.Statement.{statement}
 use Rattle.admission.proofs.search.time_in_part.Tie as tie
 

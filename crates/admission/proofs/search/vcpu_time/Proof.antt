@@ -5,10 +5,10 @@ use native.Mathlib.Omega.{arith}
 use mathlib.Core.Bool.{false}
 use mathlib.Core.Path.{_≡_, sym}
 use lib.Dec.{leb}
-use Rattle.plan.specs.Rows.{vcpuPeriod}
+use Rattle.rows.specs.Words.{vcpuPeriod}
 use Rattle.times.specs.Times.{vcpuNeed, vcpuTime}
 use Rattle.times.proofs.Search.{Searchable, before-one, next, found, missed}
-use Rattle.times.proofs.Rows.{vcpu-search}
+use Rattle.times.proofs.Bounds.{vcpu-search}
 use Rattle.admission.proofs.search.vcpu_time.Statement.{statement}
 use Rattle.admission.proofs.search.vcpu_time.Tie as tie
 

@@ -3,7 +3,7 @@ use Prim.Native.Nat.{ℕ, _*_}
 use native.Mathlib.Omega.{arith}
 use mathlib.Core.Path.{ap}
 use lib.ListN.{length}
-use Rattle.plan.proofs.Parts.{start-le}
+use Rattle.rows.proofs.Parts.{start-le}
 use borrow.Author.Needs.{needs}
 use Rattle.juzvanec.proofs.plans.juzvanec_part.Statement.{statement}
 use Rattle.juzvanec.proofs.plans.juzvanec_part.Tie as tie

@@ -1,0 +1,71 @@
+-- `admission::row_times::task_time` meets its contract: the part of the row's VCPU is handed on to the search, for which it is fit (`Fit`).
+use Prim.Native.Nat.{ℕ}
+use native.Mathlib.Omega.{arith}
+use mathlib.Core.List.{List}
+use mathlib.Core.Path.{_≡_, ap₂, _∙_}
+use Rattle.rows.specs.Words.{vcpuOf}
+use Rattle.rows.specs.Part.{partFrom, partOf}
+use Rattle.rows.proofs.Parts.{part-at-start}
+use Rattle.admission.proofs.Fit.{Fit, fit, fit-read, time-read}
+use borrow.Author.Needs.{needs}
+use Rattle.admission.proofs.row_times.task_time.Statement.{statement}
+use Rattle.admission.proofs.row_times.task_time.Tie as tie
+
+fit-of : (c : tie.Start) → Fit (c .args .vcpus .now) (c .args .tasks .now) (c .args .j)
+fit-of c = fit (c .args .reload) (c .args .vcpus .now) (c .args .tasks .now) (c .pre .0) (c .args .j) (c .pre .1)
+
+-- the part that is handed on is that of the row's VCPU
+own : (c : tie.After-part-from) → c .part-from .result .now ≡ partOf (c .before .before .before .before .args .tasks .now) (vcpuOf (c .before .before .before .before .args .tasks .now) (c .before .before .before .before .args .j))
+own c =
+    let s = c .before .before .before .before in
+    let t : List ℕ = s .args .tasks .now in
+    c .part-from .ensures
+    ∙ ap₂ (λ (i v : ℕ). partFrom t i v) (s .pre .2) (c .before .task-word .ensures)
+    ∙ part-at-start t (vcpuOf t (s .args .j))
+
+task-word-requires : tie.Need-task-word-requires
+task-word-requires c κs = search needs
+
+part-from-requires : tie.Need-part-from-requires
+part-from-requires c κs = search needs
+
+vcpu-word-requires : tie.Need-vcpu-word-requires
+vcpu-word-requires c κs = search needs
+
+vcpu-word-requires-2 : tie.Need-vcpu-word-requires-2
+vcpu-word-requires-2 c κs = search needs
+
+cast-time-in-part : tie.Need-cast-time-in-part
+cast-time-in-part c =
+    let s = c .before .before .before .before .before .before in
+    omega (arith, fit-of s .start, s .pre .2, s .fits .j .fits)
+
+sub-time-in-part : tie.Need-sub-time-in-part
+sub-time-in-part c =
+    let s = c .before .before .before .before .before .before in
+    omega (arith, fit-of s .start, s .pre .2)
+
+time-in-part-requires : tie.Need-time-in-part-requires
+time-in-part-requires c κs =
+    let s = c .before .before .before .before .before .before in
+    let read = fit-read (s .args .vcpus .now) (s .args .tasks .now) _ (s .args .j) _ _ _ (s .args .start) (c .before .before .before .task-word .ensures) (c .before .vcpu-word .ensures) (c .vcpu-word2 .ensures) (own (c .before .before)) (s .pre .2) (fit-of s) in
+    (read .0, read .1, s .pre .0 .reload-high, read .2)
+
+returns : tie.Need-returns
+returns c =
+    let s = c .before .before .before .before .before .before .before in
+    c .time-in-part .ensures
+    ∙ time-read (s .args .vcpus .now) (s .args .tasks .now) _ (s .args .j) _ _ _ (s .args .start) (c .before .before .before .before .task-word .ensures) (c .before .before .vcpu-word .ensures) (c .before .vcpu-word2 .ensures) (own (c .before .before .before)) (s .pre .2) (s .args .reload)
+
+pub task-time-spec : {M : Type 1} → statement M
+task-time-spec =
+    tie.close
+    (tie.spec
+    task-word-requires
+    part-from-requires
+    vcpu-word-requires
+    vcpu-word-requires-2
+    cast-time-in-part
+    sub-time-in-part
+    time-in-part-requires
+    returns)

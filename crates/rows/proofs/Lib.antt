@@ -1,0 +1,2 @@
+-- The laws of the part of a VCPU.
+pub mod Parts
