@@ -14,7 +14,7 @@ use Rattle.lists.proofs.Found.{none-lowest, none-any}
 use Rattle.refusal.specs.Reply.{Answers, unless}
 use Rattle.colours.specs.Sets.{isColourSet}
 use Rattle.board.specs.declared.Board.{Board}
-use Rattle.board.specs.Tests.{grant, activeSet, shares, sharesWithAnother, emptyOrOutside, domainTests}
+use Rattle.board.specs.Tests.{grant, activeSet, shares, badGrant, sharesWithAnother, badActive, domainTests}
 use Rattle.board.proofs.Faults.{domain-reply}
 
 -- a set meets a union where it meets a part
@@ -41,13 +41,13 @@ union-right : (a b : ℕ) → b ≤ bitOr a b
 union-right a b = omega (arith, or-comm a b, union-left b a)
 
 -- no domain below d has a fault, but for a bit at N or above, and s is the union of their grants
-pub record Passed (b : Board) (d s : ℕ) : Type 0 where
-  pub sets : (e : ℕ) → e < d → emptyOrOutside (grant b e) (activeSet b e) ≡ false
+pub record InOrderTo (b : Board) (d s : ℕ) : Type 0 where
+  pub sets : (e : ℕ) → e < d → badActive b e ≡ false
   pub apart : (e f : ℕ) → e < f → f < d → bitAnd (grant b f) (grant b e) ≡ 0
   pub inside : (e x : ℕ) → e < d → bitAnd x s ≡ 0 → bitAnd x (grant b e) ≡ 0
   pub below : (e : ℕ) → e < d → grant b e ≤ s
 
-pub passed-none : (b : Board) → Passed b 0 0
+pub passed-none : (b : Board) → InOrderTo b 0 0
 passed-none b =
     record {
       sets = λ e l. absurd (lt-irrefl e (omega arith));
@@ -62,21 +62,21 @@ one-more P d e l before here = below-or-not e d before (λ h. let same : e ≡ d
 
 pub passed-next :
     (b : Board) (d s : ℕ)
-    → Passed b d s
-    → emptyOrOutside (grant b d) (activeSet b d) ≡ false
+    → InOrderTo b d s
+    → badActive b d ≡ false
     → bitAnd (grant b d) s ≡ 0
-    → Passed b (d + 1) (bitOr s (grant b d))
+    → InOrderTo b (d + 1) (bitOr s (grant b d))
 passed-next b d s p set free =
     let g : ℕ = grant b d in
     record {
-      sets = λ e l. one-more (λ (i : ℕ). emptyOrOutside (grant b i) (activeSet b i) ≡ false) d e l (p .sets e) set;
+      sets = λ e l. one-more (λ (i : ℕ). badActive b i ≡ false) d e l (p .sets e) set;
       apart = λ e f l h. one-more (λ (i : ℕ). e < i → bitAnd (grant b i) (grant b e) ≡ 0) d f h (λ m k. p .apart e f k m) (λ k. p .inside e g k free) l;
       inside = λ e x l z. one-more (λ (i : ℕ). bitAnd x (grant b i) ≡ 0) d e l (λ m. p .inside e x m (apart-left x s g z)) (apart-right x s g z);
       below = λ e l. one-more (λ (i : ℕ). grant b i ≤ bitOr s g) d e l (λ m. omega (arith, p .below e m, union-left s g)) (union-right s g);
     }
 
-module _ (b : Board) (s : ℕ) (p : Passed b (b .domains) s) (c : isColourSet (b .colours) s ≡ true) where
-  granted : (d : ℕ) → d < b .domains → not (isColourSet (b .colours) (grant b d)) ≡ false
+module _ (b : Board) (s : ℕ) (p : InOrderTo b (b .domains) s) (c : isColourSet (b .colours) s ≡ true) where
+  granted : (d : ℕ) → d < b .domains → badGrant b d ≡ false
   unfolding isColourSet
   granted d l =
       let g : ℕ = grant b d in
@@ -104,4 +104,4 @@ module _ (b : Board) (s : ℕ) (p : Passed b (b .domains) s) (c : isColourSet (b
       let n : ℕ = b .domains in
       let end : ltb n n ≡ false = le-ltb n n (omega arith) in
       rw
-      (domain-reply, none-lowest (λ (d : ℕ). not (isColourSet (b .colours) (grant b d))) n granted, none-lowest (λ (d : ℕ). sharesWithAnother b d) n not-shared, none-lowest (λ (d : ℕ). emptyOrOutside (grant b d) (activeSet b d)) n (p .sets), end)
+      (domain-reply, none-lowest (badGrant b) n granted, none-lowest (sharesWithAnother b) n not-shared, none-lowest (badActive b) n (p .sets), end)

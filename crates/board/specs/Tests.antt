@@ -1,5 +1,5 @@
--- Refusals 2 to 8 as a list of tests in document 01's order: those of a board with a frame table of so many words, and that of the
--- calling domain. A board that passes 2 to 7 is accepted.
+-- Refusals 2 to 8 as lists of tests in document 01's order: each test by its name, then those of a board, of the state that a call gets,
+-- and of a call. A board that passes 2 to 7 is accepted.
 use Prim.Native.Nat.{ℕ}
 use mathlib.Core.Bool.{Bool, not, _&&_, _||_}
 use mathlib.Core.List.{List, [], _∷_, _++_}
@@ -27,35 +27,50 @@ shares s g = not (eqb (bitAnd s g) 0)
 abbrev pub emptyOrOutside : ℕ → ℕ → Bool
 emptyOrOutside g s = eqb s 0 || not (eqb (bitAnd s g) s)
 
--- 2 to 4: N, F and the table's length, the domain count
-unfoldable pub sizeTests : Board → ℕ → List Test
-sizeTests b words =
-    countTest (b .colours)
-    ∷ test 3 (eqb (b .frames) 0 || (ltb 4096 (b .frames) || not (eqb words (b .frames))))
-    ∷ test 4 (eqb (b .domains) 0 || ltb 8 (b .domains))
-    ∷ []
+-- 3: F is 0 or above 4,096, or the table has another number of words
+abbrev pub badFrames : Board → ℕ → Bool
+badFrames b words = eqb (b .frames) 0 || (ltb 4096 (b .frames) || not (eqb words (b .frames)))
 
--- a domain's grant shares a bit with another's
+-- 4: the domain count is 0 or above 8
+abbrev pub badDomains : Board → Bool
+badDomains b = eqb (b .domains) 0 || ltb 8 (b .domains)
+
+-- 5: a domain's grant is 0 or has a bit at N or above
+abbrev pub badGrant : Board → ℕ → Bool
+badGrant b d = not (isColourSet (b .colours) (grant b d))
+
+-- 6: it shares a bit with another's
 abbrev pub sharesWithAnother : Board → ℕ → Bool
 sharesWithAnother b d = any (λ (e : ℕ). not (eqb e d) && shares (grant b d) (grant b e)) (upto (b .domains))
 
--- 5 to 7, for each domain below the count, the lowest first
-unfoldable pub domainTests : Board → List Test
-domainTests b =
-    each (b .domains) 5 (λ (d : ℕ). not (isColourSet (b .colours) (grant b d)))
-    ++ each (b .domains) 6 (λ (d : ℕ). sharesWithAnother b d)
-    ++ each (b .domains) 7 (λ (d : ℕ). emptyOrOutside (grant b d) (activeSet b d))
-
-unfoldable pub boardTests : Board → ℕ → List Test
-boardTests b words = sizeTests b words ++ domainTests b
+-- 7: a domain's active set is 0 or has a bit outside its grant
+abbrev pub badActive : Board → ℕ → Bool
+badActive b d = emptyOrOutside (grant b d) (activeSet b d)
 
 -- 8: the calling domain is not below the domain count
 abbrev pub callerTest : Board → ℕ → Test
 callerTest b d = test 8 (not (ltb d (b .domains)))
 
--- the reply of a board's tests, and of a call's
+-- 5 to 7, for each domain below the count, the lowest first
+unfoldable pub domainTests : Board → List Test
+domainTests b =
+    each (b .domains) 5 (badGrant b) ++ (each (b .domains) 6 (sharesWithAnother b) ++ each (b .domains) 7 (badActive b))
+
+-- of a board, with a table of so many words: 2 to 7
+unfoldable pub boardTests : Board → ℕ → List Test
+boardTests b words = countTest (b .colours) ∷ test 3 (badFrames b words) ∷ test 4 (badDomains b) ∷ domainTests b
+
+-- of the state that a call gets: those of its board
+abbrev pub stateTests : Board → ℕ → List Test
+stateTests b words = boardTests b words
+
+-- of a call: those of its state, then 8
+unfoldable pub callTests : Board → ℕ → ℕ → List Test
+callTests b words d = stateTests b words ++ (callerTest b d ∷ [])
+
+-- the replies
 unfoldable pub boardReply : Board → ℕ → Reply (Unit {0})
 boardReply b words = unless (boardTests b words) tt
 
 unfoldable pub callReply : Board → ℕ → ℕ → Reply (Unit {0})
-callReply b words d = unless (boardTests b words ++ (callerTest b d ∷ [])) tt
+callReply b words d = unless (callTests b words d) tt

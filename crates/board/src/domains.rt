@@ -2,12 +2,11 @@
 // number after the other. A function that looks for a domain gives the count where none is at fault.
 // A board with nothing at fault, as that of nearly every call, is gone over once.
 ghost use mathlib.Core.Path.{_≡_};
-ghost use mathlib.Core.Bool.{true, not};
+ghost use mathlib.Core.Bool.{true};
 ghost use Prim.Native.Nat.{_≤_, _<_};
 ghost use Rattle.lists.specs.Range.{lowest};
 ghost use Rattle.refusal.specs.Reply.{Answers, unless};
-ghost use Rattle.colours.specs.Sets.{isColourSet};
-ghost use Rattle.board.specs.Tests.{grant, activeSet, sharesWithAnother, emptyOrOutside, domainTests};
+ghost use Rattle.board.specs.Tests.{badGrant, sharesWithAnother, badActive, domainTests};
 ghost use Rattle.board.specs.Paper.{paperChecked};
 use crate::Board;
 use crate::Checked;
@@ -79,7 +78,7 @@ fn first_fault(board: Board) -> Checked
 // 5: the lowest domain whose grant is 0 or has a bit at N or above.
 fn wrong_grant(board: Board) -> u32
     requires { ⌜ board .domains ≤ 8 ⌝ }
-    ensures { λ r. ⌜ r ≡ lowest (λ d. not (isColourSet (board .colours) (grant board d))) (board .domains) ⌝ }
+    ensures { λ r. ⌜ r ≡ lowest (badGrant board) (board .domains) ⌝ }
 {
     let grants = board.grants;
     let mut d: u32 = 0;
@@ -115,7 +114,7 @@ fn shares_with_another(board: Board, d: u32) -> bool
 // 6: the lowest domain whose grant shares a bit with another's.
 fn shared_grant(board: Board) -> u32
     requires { ⌜ board .domains ≤ 8 ⌝ }
-    ensures { λ r. ⌜ r ≡ lowest (λ d. sharesWithAnother board d) (board .domains) ⌝ }
+    ensures { λ r. ⌜ r ≡ lowest (sharesWithAnother board) (board .domains) ⌝ }
 {
     let mut d: u32 = 0;
     while d < board.domains {
@@ -130,7 +129,7 @@ fn shared_grant(board: Board) -> u32
 // 7: the lowest domain whose active set is 0 or has a bit outside its grant.
 fn wrong_active(board: Board) -> u32
     requires { ⌜ board .domains ≤ 8 ⌝ }
-    ensures { λ r. ⌜ r ≡ lowest (λ d. emptyOrOutside (grant board d) (activeSet board d)) (board .domains) ⌝ }
+    ensures { λ r. ⌜ r ≡ lowest (badActive board) (board .domains) ⌝ }
 {
     let grants = board.grants;
     let active = board.active;

@@ -1,6 +1,10 @@
 // The board by value, and refusals 2 to 8: document 01, "Board and frame table". check_board tests a
 // board with a frame table of so many words, check_call a call of a domain too.
 mod domains;
+mod fields;
+
+pub use fields::active_set;
+pub use fields::grant_of;
 
 ghost use mathlib.Core.Path.{_≡_};
 ghost use Rattle.board.specs.Tests.{boardReply, callReply};

@@ -42,7 +42,7 @@ module _ (p : ℕ → Bool) where
   kept-none n e x h = none-from n 0 e x (omega arith) (omega arith)
 
 module _ (p q : ℕ → Bool) where
-  same-from : (n i : ℕ) → ((x : ℕ) → i ≤ x → x < i + n → p x ≡ q x) → keep p (from i n) ≡ keep q (from i n)
+  pub same-from : (n i : ℕ) → ((x : ℕ) → i ≤ x → x < i + n → p x ≡ q x) → keep p (from i n) ≡ keep q (from i n)
   unfolding keep from
   same-from zero i f = refl
   same-from (suc n) i f = rw (f i (le-refl i) (omega arith), same-from n (suc i) (λ x l h. f x (omega arith) (omega arith)))

@@ -102,8 +102,7 @@ module _ (p : ℕ → Bool) where
   sought-past i j n l h none = rw (ahead-past i j n l h none)
 
   pub none-lowest : (n : ℕ) → ((m : ℕ) → m < n → p m ≡ false) → lowest p n ≡ n
-  unfolding lowest
-  none-lowest n none = rw (none-kept n none)
+  none-lowest n none = sought-past 0 n n (omega arith) (le-refl n) (λ m low high. none m high) ∙ sought-end p n n (le-refl n)
 
   -- no search goes beyond the range
   pub sought-le : (i n : ℕ) → i ≤ n → lowestFrom p i n ≤ n

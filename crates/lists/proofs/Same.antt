@@ -7,19 +7,14 @@ use mathlib.Core.Path.{_≡_, refl, ap}
 use lib.ListN.{length}
 use Rattle.lists.specs.Range.{from, keep, lowestFrom}
 use Rattle.lists.proofs.Split.{cases, below-or-not}
+use Rattle.lists.proofs.Filter.{same-from}
 use Rattle.lists.proofs.Kept.{ahead}
 use Rattle.lists.proofs.Found.{missed-list}
 
 module _ (p q : ℕ → Bool) where
-  keep-cong : (k i : ℕ) → ((m : ℕ) → i ≤ m → p m ≡ q m) → keep p (from i k) ≡ keep q (from i k)
-  unfolding keep from
-  keep-cong zero i same = refl
-  keep-cong (suc k) i same =
-      rw (same i (le-refl i), keep-cong k (suc i) (λ m l. same m (omega arith)))
-
   pub ahead-cong : (i n : ℕ) → ((m : ℕ) → i ≤ m → p m ≡ q m) → ahead p i n ≡ ahead q i n
   unfolding ahead
-  ahead-cong i n same = keep-cong (n - i) i same
+  ahead-cong i n same = same-from p q (n - i) i (λ m l h. same m l)
 
 module _ (p : ℕ → Bool) where
   pub kept-le : (k i : ℕ) → length (keep p (from i k)) ≤ k

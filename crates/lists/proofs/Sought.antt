@@ -1,20 +1,17 @@
--- A loop that looks for the lowest number that passes a test, and one that asks whether any does: what it has found is settled by the
--- numbers from the one it has come to.
+-- Loops over a range: one that looks for the lowest number that passes a test, one that counts those that do, and one that asks whether
+-- any does. What each has still to find is settled by the numbers from the one it has come to.
 use Prim.Native.Nat.{ℕ, zero, suc, _+_, _-_, _<_, _≤_}
 use native.Mathlib.Nat.{le-refl, sub-zero}
 use native.Mathlib.Numerals.{add-one}
 use native.Mathlib.Omega.{arith}
 use mathlib.Core.Bool.{Bool, true, false, _||_}
 use mathlib.Core.Path.{_≡_, refl, sym, ap, _∙_}
-use Rattle.lists.specs.Range.{from, upto, any, lowest, lowestFrom}
+use lib.ListN.{length}
+use Rattle.lists.specs.Range.{from, upto, keep, any, lowestFrom}
 use Rattle.lists.proofs.Split.{cases}
 use Rattle.lists.proofs.Kept.{ahead, ahead-start, ahead-take, ahead-skip, ahead-end}
 
 module _ (p : ℕ → Bool) where
-  pub sought-start : (n : ℕ) → lowest p n ≡ lowestFrom p 0 n
-  unfolding lowest lowestFrom ahead
-  sought-start n = rw (ahead-start p n)
-
   pub sought-hit : (i n : ℕ) → i < n → p i ≡ true → lowestFrom p i n ≡ i
   unfolding lowestFrom ahead
   sought-hit i n l h = rw (ahead-take p i n l h)
@@ -26,6 +23,52 @@ module _ (p : ℕ → Bool) where
   pub sought-end : (i n : ℕ) → n ≤ i → lowestFrom p i n ≡ n
   unfolding lowestFrom ahead
   sought-end i n h = rw (ahead-end p i n h)
+
+  -- a loop for the lowest of j .. n − 1 that passes has come to i: what it looks for is ahead
+  pub record Seeking (j n i : ℕ) : Type 0 where
+    pub within : i ≤ n
+    pub ahead : lowestFrom p j n ≡ lowestFrom p i n
+
+  pub seek-start : (j n : ℕ) → j ≤ n → Seeking j n j
+  seek-start j n l = record { within = l; ahead = refl }
+
+  pub seek-hit : {j n i : ℕ} → Seeking j n i → i < n → p i ≡ true → i ≡ lowestFrom p j n
+  seek-hit s l h = sym (s .ahead ∙ sought-hit _ _ l h)
+
+  pub seek-miss : {j n i : ℕ} → Seeking j n i → i < n → p i ≡ false → Seeking j n (i + 1)
+  seek-miss s l h = record { within = omega arith; ahead = s .ahead ∙ sought-miss _ _ l h }
+
+  pub seek-end : {j n i : ℕ} → Seeking j n i → n ≤ i → i ≡ lowestFrom p j n
+  seek-end {n = n} {i = i} s l = let all : i ≡ n = omega arith in all ∙ sym (s .ahead ∙ sought-end _ _ l)
+
+  -- a loop that counts those of 0 .. n − 1 that pass has come to i, with c of them behind it
+  pub record Counting (n i c : ℕ) : Type 0 where
+    pub within : i ≤ n
+    pub few : c ≤ i
+    pub ahead : length (keep p (upto n)) ≡ c + length (ahead p i n)
+
+  pub counting-start : (n : ℕ) → Counting n 0 0
+  counting-start n =
+      record { within = omega arith; few = omega arith; ahead = omega (arith, ap length (ahead-start p n)) }
+
+  pub counting-hit : {n i c : ℕ} → Counting n i c → i < n → p i ≡ true → Counting n (i + 1) (c + 1)
+  counting-hit s l h =
+      record {
+        within = omega arith;
+        few = omega arith;
+        ahead = omega (arith, s .ahead, ap length (ahead-take p _ _ l h));
+      }
+
+  pub counting-miss : {n i c : ℕ} → Counting n i c → i < n → p i ≡ false → Counting n (i + 1) c
+  counting-miss s l h =
+      record {
+        within = omega arith;
+        few = omega arith;
+        ahead = omega (arith, s .ahead, ap length (ahead-skip p _ _ l h));
+      }
+
+  pub counting-end : {n i c : ℕ} → Counting n i c → n ≤ i → c ≡ length (keep p (upto n))
+  counting-end s l = omega (arith, s .ahead, ap length (ahead-end p _ _ l))
 
   -- whether one of i .. n − 1 passes
   unfoldable pub anyAhead : ℕ → ℕ → Bool

@@ -34,10 +34,10 @@ abbrev pub headOr : ℕ → List ℕ → ℕ
 headOr n [] = n
 headOr n (x ∷ xs) = x
 
--- the lowest number below n that passes a test, or n where none does
-unfoldable pub lowest : (ℕ → Bool) → ℕ → ℕ
-lowest p n = headOr n (keep p (upto n))
-
 -- the lowest number from i on and below n that passes a test, or n where none does
 unfoldable pub lowestFrom : (ℕ → Bool) → ℕ → ℕ → ℕ
 lowestFrom p i n = headOr n (keep p (from i (n - i)))
+
+-- the lowest number below n that passes
+abbrev pub lowest : (ℕ → Bool) → ℕ → ℕ
+lowest p n = lowestFrom p 0 n

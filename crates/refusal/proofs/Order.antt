@@ -1,6 +1,6 @@
 -- The order of tests: what the tests before decide is decided, and of one test for each domain or row the lowest at fault refuses.
 use Prim.Native.Nat.{ℕ, zero, suc, _+_, _<_, _≤_}
-use native.Mathlib.Nat.{le-refl, zero-add, lt-irrefl}
+use native.Mathlib.Nat.{le-refl, zero-add, sub-zero, lt-irrefl}
 use native.Mathlib.Omega.{arith}
 use mathlib.Core.Bool.{Bool, true, false}
 use mathlib.Core.List.{List, [], _∷_, _++_, map}
@@ -8,7 +8,7 @@ use mathlib.Core.Path.{_≡_, refl}
 use lib.Dec.{ltb}
 use borrow.Author.Tests.{lt-ltb, le-ltb}
 use Rattle.lists.specs.Choice.{if_then_else_}
-use Rattle.lists.specs.Range.{from, keep, headOr, lowest}
+use Rattle.lists.specs.Range.{from, keep, headOr, lowest, lowestFrom}
 use Rattle.lists.proofs.Split.{cases}
 use Rattle.lists.proofs.Found.{from-on}
 use Rattle.refusal.specs.Reply.{Answers, Refuses, Test, each, unless, passes}
@@ -45,8 +45,8 @@ module _ {A : Type 0} (n number : ℕ) (f : ℕ → Bool) (rest : List Test) (a 
 
   pub unless-each :
       unless (each n number f ++ rest) a ≡ (if ltb (lowest f n) n then Refuses number (lowest f n) else unless rest a)
-  unfolding each lowest
-  unless-each = rows n 0 (zero-add n)
+  unfolding each lowestFrom
+  unless-each = rw (sub-zero n) (rows n 0 (zero-add n))
 
 -- where no test of two lists fails, none of the second does
 pub passed-later : (xs ys : List Test) → passes (xs ++ ys) ≡ true → passes ys ≡ true

@@ -1,13 +1,12 @@
 -- `board::check_board` meets its contract: each return has the tests that led there.
-use mathlib.Core.Bool.{true, false, not, _||_}
+use mathlib.Core.Bool.{true, false}
 use mathlib.Core.Logic.{⊎-elim}
 use mathlib.Core.Path.{_≡_, sym, _∙_}
-use lib.Dec.{eqb, ltb}
 use borrow.Author.Tests.{eq-eqb, ne-eqb, not-true, not-false}
 use borrow.Author.Needs.{needs}
 use Rattle.refusal.specs.Reply.{unless}
 use Rattle.colours.specs.Cache.{isColourCount}
-use Rattle.board.specs.Tests.{boardReply, boardTests, sizeTests}
+use Rattle.board.specs.Tests.{badFrames, boardReply, boardTests}
 use Rattle.board.proofs.check_board.Statement.{statement}
 use Rattle.board.proofs.check_board.Tie as tie
 
@@ -16,24 +15,21 @@ passes-2 c = sym (c .before .is-colour-count .ensures) ∙ not-false _ (c .if1 .
 
 passes-3 :
     (c : tie.Else4)
-    → (eqb (c .before .before .before .before .before .args .board .frames) 0
-    || (ltb 4096 (c .before .before .before .before .before .args .board .frames)
-    || not (eqb (c .before .before .before .before .before .args .words) (c .before .before .before .before .before .args .board .frames))))
-    ≡ false
+    → badFrames (c .before .before .before .before .before .args .board) (c .before .before .before .before .before .args .words) ≡ false
 passes-3 c = simp (ne-eqb _ _ (c .before .before .if2 .left), c .before .if3 .left, c .if4 .left)
 
 is-colour-count-requires : tie.Need-is-colour-count-requires
 is-colour-count-requires c κs = search needs
 
 returns : tie.Need-returns
-unfolding boardReply boardTests sizeTests unless
+unfolding boardReply boardTests unless
 returns c = simp (sym (c .before .is-colour-count .ensures) ∙ not-true _ (c .if1 .taken))
 
 cast-if4 : tie.Need-cast-if4
 cast-if4 c = search needs
 
 returns-2 : tie.Need-returns-2
-unfolding boardReply boardTests sizeTests unless
+unfolding boardReply boardTests unless
 returns-2 c =
     let two = passes-2 (c .before) in
     ⊎-elim (λ w. simp (two, eq-eqb _ _ (w .taken)))
@@ -42,7 +38,7 @@ returns-2 c =
     (c .if2 .came)
 
 returns-3 : tie.Need-returns-3
-unfolding boardReply boardTests sizeTests unless
+unfolding boardReply boardTests unless
 returns-3 c =
     let two = passes-2 (c .before .before .before .before) in
     ⊎-elim (λ w. simp (two, passes-3 (c .before), eq-eqb _ _ (w .taken)))
@@ -53,7 +49,7 @@ check-domains-requires : tie.Need-check-domains-requires
 check-domains-requires c κs = search needs
 
 returns-4 : tie.Need-returns-4
-unfolding boardReply boardTests sizeTests unless
+unfolding boardReply boardTests unless
 returns-4 c =
     let two = passes-2 (c .before .before .before .before .before .before) in
     simp (two, passes-3 (c .before .before .before), ne-eqb _ _ (c .before .before .if5 .left), c .before .if6 .left, c .check-domains .ensures)

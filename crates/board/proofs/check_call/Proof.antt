@@ -6,7 +6,7 @@ use borrow.Author.Needs.{needs}
 use Rattle.refusal.specs.Reply.{unless}
 use Rattle.refusal.proofs.Order.{unless-refused, unless-passed}
 use Rattle.board.specs.Paper.{paperChecked}
-use Rattle.board.specs.Tests.{boardReply, boardTests, callReply, callerTest}
+use Rattle.board.specs.Tests.{boardReply, boardTests, callTests, callReply, callerTest}
 use Rattle.board.proofs.check_call.Statement.{statement}
 use Rattle.board.proofs.check_call.Tie as tie
 
@@ -15,7 +15,7 @@ last :
     (c : tie.After-enum-told)
     → callReply (c .before .before .before .args .board) (c .before .before .before .args .words) (c .before .before .before .args .domain)
     ≡ unless (callerTest (c .before .before .before .args .board) (c .before .before .before .args .domain) ∷ []) tt
-unfolding callReply boardReply
+unfolding callReply callTests boardReply
 last c =
     let a = c .before .before .before .args in
     let first = sym (c .before .before .check-board .ensures) ∙ ap paperChecked (c .enum-told .given .1) in
@@ -31,7 +31,7 @@ enum-told : tie.Need-enum-told
 enum-told c = search needs
 
 returns : tie.Need-returns
-unfolding callReply boardReply
+unfolding callReply callTests boardReply
 returns c =
     let a = c .before .before .before .before .args in
     let first = sym (c .before .before .before .check-board .ensures) ∙ ap paperChecked (c .before .refusal .given .1) in

@@ -6,12 +6,12 @@ use mathlib.Core.Path.{_≡_, sym, _∙_}
 use borrow.Author.Tests.{ne-eqb, eqb-true, not-false}
 use borrow.Author.Needs.{needs}
 use Rattle.board.specs.Tests.{grant, activeSet, emptyOrOutside}
-use Rattle.board.proofs.InOrder.{Passed, passed-none, passed-next, in-order-reply}
+use Rattle.board.proofs.InOrder.{InOrderTo, passed-none, passed-next, in-order-reply}
 use Rattle.board.proofs.domains.in_order.Statement.{statement}
 use Rattle.board.proofs.domains.in_order.Tie as tie
 
 abbrev Inv-loop : tie.InvT-loop
-Inv-loop board grants active seen₀ d₀ seen d = (d ≤ board .domains) × Passed board d seen
+Inv-loop board grants active seen₀ d₀ seen d = (d ≤ board .domains) × InOrderTo board d seen
 
 abbrev μ-loop : tie.MeasureT-loop
 μ-loop board grants active seen₀ d₀ seen d = board .domains - d

@@ -1,28 +1,21 @@
 -- `board::domains::wrong_active` meets its contract. The invariant: the domain sought is sought from `d` on.
-use Prim.Native.Nat.{ℕ, _-_, _≤_}
+use Prim.Native.Nat.{_-_}
 use native.Mathlib.Omega.{arith}
-use mathlib.Core.Bool.{Bool, true, false}
 use mathlib.Core.Logic.{⊎-elim}
-use mathlib.Core.Path.{_≡_, sym, _∙_}
 use borrow.Author.Tests.{eq-eqb, ne-eqb}
-use Rattle.lists.specs.Range.{lowest, lowestFrom}
-use Rattle.lists.proofs.Sought.{sought-start, sought-hit, sought-miss, sought-end}
-use Rattle.board.specs.declared.Board.{Board}
-use Rattle.board.specs.Tests.{grant, activeSet, emptyOrOutside}
+use Rattle.lists.proofs.Sought.{Seeking, seek-start, seek-hit, seek-miss, seek-end}
+use Rattle.board.specs.Tests.{badActive}
 use Rattle.board.proofs.domains.wrong_active.Statement.{statement}
 use Rattle.board.proofs.domains.wrong_active.Tie as tie
 
-abbrev wrong : Board → ℕ → Bool
-wrong b i = emptyOrOutside (grant b i) (activeSet b i)
-
 abbrev Inv-loop : tie.InvT-loop
-Inv-loop board grants active d₀ d = (d ≤ board .domains) × (lowest (wrong board) (board .domains) ≡ lowestFrom (wrong board) d (board .domains))
+Inv-loop board grants active d₀ d = Seeking (badActive board) 0 (board .domains) d
 
 abbrev μ-loop : tie.MeasureT-loop
 μ-loop board grants active d₀ d = board .domains - d
 
 loop-holds : tie.Need-loop-holds Inv-loop μ-loop
-loop-holds c = let b = c .before .before .args .board in (omega arith, sought-start (wrong b) (b .domains))
+loop-holds c = seek-start _ _ _ (omega arith)
 
 cast-k : tie.Need-cast-k Inv-loop μ-loop
 cast-k c = omega arith
@@ -40,11 +33,7 @@ array-read-if3 : tie.Need-array-read-if3 Inv-loop μ-loop
 array-read-if3 c = omega arith
 
 returns : tie.Need-returns Inv-loop μ-loop
-returns c =
-    let b = c .before .before .before .before .before .before .args .board in
-    let h = c .before .before .before .loop in
-    let here : wrong b (h .d) ≡ true = ⊎-elim (λ w. simp (eq-eqb _ _ (w .taken))) (λ w. simp (ne-eqb _ _ (w .0 .left), w .1 .taken)) (c .if2 .came) in
-    sym (h .inv .1 ∙ sought-hit (wrong b) (h .d) (b .domains) (omega arith) here)
+returns c = seek-hit _ (c .before .before .before .loop .inv) (omega arith) (⊎-elim (λ w. simp (eq-eqb _ _ (w .taken))) (λ w. simp (ne-eqb _ _ (w .0 .left), w .1 .taken)) (c .if2 .came))
 
 add-d : tie.Need-add-d Inv-loop μ-loop
 add-d c = omega arith
@@ -53,18 +42,10 @@ loop-less : tie.Need-loop-less Inv-loop μ-loop
 loop-less c = omega arith
 
 loop-again : tie.Need-loop-again Inv-loop μ-loop
-loop-again c =
-    let b = c .before .before .before .before .before .before .before .args .board in
-    let h = c .before .before .before .before .loop in
-    let here : wrong b (h .d) ≡ false = simp (ne-eqb _ _ (c .before .if2 .left), c .if3 .left) in
-    (omega arith, h .inv .1 ∙ sought-miss (wrong b) (h .d) (b .domains) (omega arith) here)
+loop-again c = seek-miss _ (c .before .before .before .before .loop .inv) (omega arith) (simp (ne-eqb _ _ (c .before .if2 .left), c .if3 .left))
 
 returns-2 : tie.Need-returns-2 Inv-loop μ-loop
-returns-2 c =
-    let b = c .before .before .before .before .before .args .board in
-    let h = c .before .before .loop in
-    let done : h .d ≡ b .domains = omega arith in
-    done ∙ sym (h .inv .1 ∙ sought-end (wrong b) (h .d) (b .domains) (omega arith))
+returns-2 c = seek-end _ (c .before .before .loop .inv) (omega arith)
 
 pub wrong-active-spec : {M : Type 1} → statement M
 wrong-active-spec =

@@ -1,28 +1,22 @@
 -- `board::domains::wrong_grant` meets its contract. The invariant: the domain sought is sought from `d` on.
-use Prim.Native.Nat.{ℕ, _-_, _≤_}
+use Prim.Native.Nat.{_-_}
 use native.Mathlib.Omega.{arith}
-use mathlib.Core.Bool.{Bool, true, false, not}
-use mathlib.Core.Path.{_≡_, sym, ap, _∙_}
+use mathlib.Core.Bool.{not}
+use mathlib.Core.Path.{sym, ap, _∙_}
 use borrow.Author.Needs.{needs}
-use Rattle.lists.specs.Range.{lowest, lowestFrom}
-use Rattle.lists.proofs.Sought.{sought-start, sought-hit, sought-miss, sought-end}
-use Rattle.colours.specs.Sets.{isColourSet}
-use Rattle.board.specs.declared.Board.{Board}
-use Rattle.board.specs.Tests.{grant}
+use Rattle.lists.proofs.Sought.{Seeking, seek-start, seek-hit, seek-miss, seek-end}
+use Rattle.board.specs.Tests.{badGrant}
 use Rattle.board.proofs.domains.wrong_grant.Statement.{statement}
 use Rattle.board.proofs.domains.wrong_grant.Tie as tie
 
-abbrev wrong : Board → ℕ → Bool
-wrong b i = not (isColourSet (b .colours) (grant b i))
-
 abbrev Inv-loop : tie.InvT-loop
-Inv-loop board grants d₀ d = (d ≤ board .domains) × (lowest (wrong board) (board .domains) ≡ lowestFrom (wrong board) d (board .domains))
+Inv-loop board grants d₀ d = Seeking (badGrant board) 0 (board .domains) d
 
 abbrev μ-loop : tie.MeasureT-loop
 μ-loop board grants d₀ d = board .domains - d
 
 loop-holds : tie.Need-loop-holds Inv-loop μ-loop
-loop-holds c = let b = c .before .args .board in (omega arith, sought-start (wrong b) (b .domains))
+loop-holds c = seek-start _ _ _ (omega arith)
 
 cast-k : tie.Need-cast-k Inv-loop μ-loop
 cast-k c = omega arith
@@ -37,11 +31,7 @@ is-colour-set-requires : tie.Need-is-colour-set-requires Inv-loop μ-loop
 is-colour-set-requires c κs = search needs
 
 returns : tie.Need-returns Inv-loop μ-loop
-returns c =
-    let b = c .before .before .before .before .before .before .args .board in
-    let h = c .before .before .before .before .loop in
-    let here : wrong b (h .d) ≡ true = ap not (sym (c .before .is-colour-set .ensures)) ∙ c .if2 .taken in
-    sym (h .inv .1 ∙ sought-hit (wrong b) (h .d) (b .domains) (omega arith) here)
+returns c = seek-hit _ (c .before .before .before .before .loop .inv) (omega arith) (ap not (sym (c .before .is-colour-set .ensures)) ∙ c .if2 .taken)
 
 add-d : tie.Need-add-d Inv-loop μ-loop
 add-d c = omega arith
@@ -50,18 +40,10 @@ loop-less : tie.Need-loop-less Inv-loop μ-loop
 loop-less c = omega arith
 
 loop-again : tie.Need-loop-again Inv-loop μ-loop
-loop-again c =
-    let b = c .before .before .before .before .before .before .args .board in
-    let h = c .before .before .before .before .loop in
-    let here : wrong b (h .d) ≡ false = ap not (sym (c .before .is-colour-set .ensures)) ∙ c .if2 .left in
-    (omega arith, h .inv .1 ∙ sought-miss (wrong b) (h .d) (b .domains) (omega arith) here)
+loop-again c = seek-miss _ (c .before .before .before .before .loop .inv) (omega arith) (ap not (sym (c .before .is-colour-set .ensures)) ∙ c .if2 .left)
 
 returns-2 : tie.Need-returns-2 Inv-loop μ-loop
-returns-2 c =
-    let b = c .before .before .before .before .args .board in
-    let h = c .before .before .loop in
-    let done : h .d ≡ b .domains = omega arith in
-    done ∙ sym (h .inv .1 ∙ sought-end (wrong b) (h .d) (b .domains) (omega arith))
+returns-2 c = seek-end _ (c .before .before .loop .inv) (omega arith)
 
 pub wrong-grant-spec : {M : Type 1} → statement M
 wrong-grant-spec =

@@ -1,0 +1,94 @@
+-- What it means that 2 to 8 pass: the lists of tests taken apart and put together, and the bounds that each test leaves. Whoever relies
+-- on 2 to 8 cites this file and no list.
+use Prim.Native.Nat.{ℕ, _<_, _≤_}
+use native.Mathlib.Nat.{pos-of-ne-zero}
+use mathlib.Core.Bool.{true, false, not}
+use mathlib.Core.List.{List, [], _∷_, _++_}
+use mathlib.Core.Path.{_≡_}
+use lib.Dec.{eqb, ltb}
+use borrow.Author.Tests.{ltb-true, ltb-false, eqb-true, eqb-false, not-false}
+use Rattle.lists.proofs.Split.{neither}
+use Rattle.refusal.specs.Reply.{Answers, Test, test, each, passes}
+use Rattle.refusal.proofs.Replies.{passed-first, answers-passed}
+use Rattle.refusal.proofs.Order.{passed-earlier, passed-later, passed-both, each-passed, each-passes}
+use Rattle.colours.specs.Cache.{isColourCount, countTest}
+use Rattle.board.specs.declared.Board.{Board}
+use Rattle.board.specs.Tests.{badFrames, badDomains, badGrant, sharesWithAnother, badActive, callerTest, domainTests, boardTests, stateTests, callTests, callReply}
+
+-- 2 to 7, test by test
+pub record Passed (b : Board) (words : ℕ) : Type 0 where
+  pub count : isColourCount (b .colours) ≡ true
+  pub frames : badFrames b words ≡ false
+  pub domains : badDomains b ≡ false
+  pub grants : (d : ℕ) → d < b .domains → badGrant b d ≡ false
+  pub shared : (d : ℕ) → d < b .domains → sharesWithAnother b d ≡ false
+  pub actives : (d : ℕ) → d < b .domains → badActive b d ≡ false
+
+module _ (b : Board) where
+  abbrev five : List Test
+  five = each (b .domains) 5 (badGrant b)
+
+  abbrev six : List Test
+  six = each (b .domains) 6 (sharesWithAnother b)
+
+  abbrev seven : List Test
+  seven = each (b .domains) 7 (badActive b)
+
+  pub split : (words : ℕ) → passes (boardTests b words) ≡ true → Passed b words
+  unfolding boardTests domainTests
+  split words e =
+      let two = passed-first (countTest (b .colours)) _ e in
+      let three = passed-first (test 3 (badFrames b words)) _ (two .1) in
+      let four = passed-first (test 4 (badDomains b)) _ (three .1) in
+      let later = passed-later five (six ++ seven) (four .1) in
+      record {
+        count = not-false _ (two .0);
+        frames = three .0;
+        domains = four .0;
+        grants = each-passed 5 (badGrant b) (b .domains) (passed-earlier five (six ++ seven) (four .1));
+        shared = each-passed 6 (sharesWithAnother b) (b .domains) (passed-earlier six seven later);
+        actives = each-passed 7 (badActive b) (b .domains) (passed-later six seven later);
+      }
+
+  pub join : (words : ℕ) → Passed b words → passes (boardTests b words) ≡ true
+  unfolding boardTests domainTests passes
+  join words p =
+      let n : ℕ = b .domains in
+      let later = passed-both six seven (each-passes 6 (sharesWithAnother b) n (p .shared)) (each-passes 7 (badActive b) n (p .actives)) in
+      rw (p .count, p .frames, p .domains) (passed-both five (six ++ seven) (each-passes 5 (badGrant b) n (p .grants)) later)
+
+-- the bounds that 3 and 4 leave
+pub record Sized (b : Board) (words : ℕ) : Type 0 where
+  pub some : 0 < b .frames
+  pub most : b .frames ≤ 4096
+  pub long : words ≡ b .frames
+  pub few : b .domains ≤ 8
+
+pub sized : (b : Board) (words : ℕ) → Passed b words → Sized b words
+sized b words p =
+    let frames = neither (eqb (b .frames) 0) _ (p .frames) in
+    let table = neither (ltb 4096 (b .frames)) _ (frames .1) in
+    record {
+      some = pos-of-ne-zero (eqb-false _ _ (frames .0));
+      most = ltb-false _ _ (table .0);
+      long = eqb-true _ _ (not-false _ (table .1));
+      few = ltb-false _ _ (neither (eqb (b .domains) 0) _ (p .domains) .1);
+    }
+
+-- the caller is below the count
+pub caller-below : (b : Board) (d : ℕ) → callerTest b d .fails ≡ false → d < b .domains
+caller-below b d e = ltb-true _ _ (not-false _ e)
+
+-- a call whose 2 to 8 pass
+pub record Accepted (b : Board) (words d : ℕ) : Type 0 where
+  pub passed : Passed b words
+  pub bounds : Sized b words
+  pub caller : d < b .domains
+
+pub accepted : (b : Board) (words d : ℕ) → callReply b words d ≡ Answers tt → Accepted b words d
+unfolding callReply callTests
+accepted b words d e =
+    let all = answers-passed (callTests b words d) tt tt e .0 in
+    let p = split b words (passed-earlier (stateTests b words) (callerTest b d ∷ []) all) in
+    let eight = passed-first (callerTest b d) [] (passed-later (stateTests b words) (callerTest b d ∷ []) all) in
+    record { passed = p; bounds = sized b words p; caller = caller-below b d (eight .0) }
