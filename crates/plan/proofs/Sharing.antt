@@ -13,7 +13,7 @@ use Rattle.lists.proofs.Sought.{anyAhead, any-start, any-past}
 use Rattle.lists.proofs.Found.{any-none}
 use Rattle.board.specs.Tests.{shares}
 use Rattle.rows.specs.Words.{vcpuOf, colourSet, taskRows}
-use Rattle.plan.specs.Tests.{zeroOrAbove, sharedColour}
+use Rattle.plan.specs.Tests.{zeroOrAbove, sharesColour}
 
 -- the cost before is 1,000,000 where there is none, and never above
 pub cost-test : (k before prev cost : ℕ) → 1 ≤ k → before ≤ 1000000 → (k ≡ 1 → before ≡ 1000000) → (1 < k → before ≡ prev)
@@ -48,8 +48,8 @@ module _ (tasks : List ℕ) where
   not-itself j = rw (eq-eqb (vcpuOf tasks j) (vcpuOf tasks j) refl) refl
 
   -- where no lower row shares a colour, the rows after it are left
-  pub shares-later : (j : ℕ) → j < taskRows tasks → ((i : ℕ) → i < j → sharedColour tasks i ≡ false)
-      → sharedColour tasks j ≡ anyAhead (sharing j) (j + 1) (taskRows tasks)
+  pub shares-later : (j : ℕ) → j < taskRows tasks → ((i : ℕ) → i < j → sharesColour tasks i ≡ false)
+      → sharesColour tasks j ≡ anyAhead (sharing j) (j + 1) (taskRows tasks)
   shares-later j h none =
       any-start (sharing j) (taskRows tasks) ∙ any-past (sharing j) (taskRows tasks) (j + 1) (omega arith) below
     where

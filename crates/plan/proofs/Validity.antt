@@ -1,9 +1,9 @@
--- What it gives that 15 to 20 pass: the sizes of the lists and the ranges of every row, on which supply, need and times rely. With a
--- board that passes 2 to 7 every task holds 1 to 16 colours, so that its cost is one of the sixteen.
-use Prim.Native.Nat.{ℕ, _+_, _-_, _*_, _%_, _^_, _<_, _≤_}
+-- A plan that passes 15 to 19, on a board that passes 2 to 7, is `Plan`: its lists are of their sizes and every row within its ranges. Each
+-- task holds 1 to 16 colours of its grant, so that its cost is one of the sixteen. And by 16 the list of times has room.
+use Prim.Native.Nat.{ℕ, _+_, _-_, _%_, _^_, _<_, _≤_}
 use native.Mathlib.Nat.{pos-of-ne-zero, lt-of-le-of-lt}
 use native.Mathlib.Omega.{arith}
-use mathlib.Core.Bool.{Bool, true, false, not}
+use mathlib.Core.Bool.{true, false, not}
 use mathlib.Core.List.{List, _++_}
 use mathlib.Core.Path.{_≡_}
 use lib.Bits.{bitAnd, and-le-r}
@@ -14,187 +14,125 @@ use borrow.Author.Tests.{ltb-true, ltb-false, lt-ltb, eqb-true, eqb-false, not-f
 use Rattle.lists.specs.Range.{from, any}
 use Rattle.lists.proofs.Split.{neither}
 use Rattle.lists.proofs.Found.{any-from}
-use Rattle.refusal.specs.Reply.{Test, Answers, each, passes}
+use Rattle.refusal.specs.Reply.{Test, Answers, each}
 use Rattle.refusal.proofs.Replies.{passed-first, answers-passed}
 use Rattle.refusal.proofs.Order.{passed-earlier, passed-later, each-passed}
-use Rattle.colours.specs.Cache.{isColourCount}
-use Rattle.colours.specs.Sets.{isColourSet}
 use Rattle.colours.proofs.Bits.{ones-pos}
 use Rattle.colours.proofs.Ranges.{count-range, colour-set}
 use Rattle.board.specs.declared.Board.{Board}
-use Rattle.board.specs.Tests.{grant, sharesWithAnother, emptyOrOutside, activeSet, sizeTests, domainTests, boardTests}
+use Rattle.board.specs.Tests.{grant, emptyOrOutside, boardTests, boardReply}
+use Rattle.board.proofs.Passed.{Passed, split}
 use Rattle.rows.specs.Words.{core, domain, vcpuPeriod, budget, vcpuOf, taskPeriod, deadline, colourSet, costWith, cost, vcpuRows, taskRows}
-use Rattle.plan.specs.Tests.{zeroOrAbove, vcpuWordsTest, taskWordsTest, badVcpu, badCost, badTask, descends, sharesColour, planTests, planReply}
-use Rattle.rows.proofs.Parts.{Ascending}
+use Rattle.rows.specs.Valid.{TaskRow, VcpuRow, Ascending, Plan}
+use Rattle.plan.specs.Tests.{zeroOrAbove, badTimes, vcpuWordsTest, taskWordsTest, badVcpu, badCost, badTask, badOrder, sharesColour, rowTests, planTests, planReply}
 
--- 15 and 16
-pub record Sized (reload : ℕ) (vcpus tasks : List ℕ) (room : ℕ) : Type 0 where
-  pub reload-high : reload ≤ 10000
-  pub vcpus-low : 1 ≤ vcpuRows vcpus
-  pub vcpus-high : vcpuRows vcpus ≤ 16
-  pub vcpu-words : length vcpus ≡ 4 * vcpuRows vcpus
-  pub tasks-low : 1 ≤ taskRows tasks
-  pub tasks-high : taskRows tasks ≤ 32
-  pub task-words : length tasks ≡ 20 * taskRows tasks
-  pub roomy : vcpuRows vcpus + taskRows tasks ≤ room
+-- 15 to 19, test by test
+pub record Tested (b : Board) (reload : ℕ) (vcpus tasks : List ℕ) (room : ℕ) : Type 0 where
+  pub vcpu-words : vcpuWordsTest reload vcpus .fails ≡ false
+  pub task-words : taskWordsTest vcpus tasks room .fails ≡ false
+  pub vcpus : (i : ℕ) → i < vcpuRows vcpus → badVcpu b vcpus i ≡ false
+  pub tasks : (j : ℕ) → j < taskRows tasks → badTask b vcpus tasks j ≡ false
+  pub order : (j : ℕ) → j < taskRows tasks → badOrder tasks j ≡ false
 
--- 17
-pub record VcpuAccepted (b : Board) (vcpus : List ℕ) (i : ℕ) : Type 0 where
-  pub whole : 4 * i + 4 ≤ length vcpus
-  pub core-high : core vcpus i ≤ 3
-  pub domain-below : domain vcpus i < b .domains
-  pub period-low : 1 ≤ vcpuPeriod vcpus i
-  pub period-high : vcpuPeriod vcpus i ≤ 1000000
-  pub budget-low : 1 ≤ budget vcpus i
-  pub budget-high : budget vcpus i ≤ vcpuPeriod vcpus i
-
--- 18
-pub record TaskAccepted (b : Board) (vcpus tasks : List ℕ) (j : ℕ) : Type 0 where
-  pub whole : 20 * j + 20 ≤ length tasks
-  pub vcpu-below : vcpuOf tasks j < vcpuRows vcpus
-  pub period-low : 1 ≤ taskPeriod tasks j
-  pub period-high : taskPeriod tasks j ≤ 1000000
-  pub due-low : 1 ≤ deadline tasks j
-  pub due-high : deadline tasks j ≤ taskPeriod tasks j
-  pub some : 0 < colourSet tasks j
-  pub inside : bitAnd (colourSet tasks j) (grant b (domain vcpus (vcpuOf tasks j))) ≡ colourSet tasks j
-  pub costs : (k : ℕ) → 1 ≤ k → k ≤ 16 → (1 ≤ costWith tasks j k) × (costWith tasks j k ≤ 1000000)
-
-pub record PlanAccepted (b : Board) (reload : ℕ) (vcpus tasks : List ℕ) (room : ℕ) : Type 0 where
-  pub sized : Sized reload vcpus tasks room
-  pub vcpu : (i : ℕ) → i < vcpuRows vcpus → VcpuAccepted b vcpus i
-  pub task : (j : ℕ) → j < taskRows tasks → TaskAccepted b vcpus tasks j
-  pub ascending : Ascending tasks
+tested : (b : Board) (reload : ℕ) (vcpus tasks : List ℕ) (room : ℕ) → planReply b reload vcpus tasks room ≡ Answers tt → Tested b reload vcpus tasks room
+unfolding planReply planTests rowTests
+tested b reload vcpus tasks room e =
+    let n : ℕ = taskRows tasks in
+    let seventeen : List Test = each (vcpuRows vcpus) 17 (badVcpu b vcpus) in
+    let eighteen : List Test = each n 18 (badTask b vcpus tasks) in
+    let nineteen : List Test = each n 19 (badOrder tasks) in
+    let twenty : List Test = each n 20 (sharesColour tasks) in
+    let first = passed-first (vcpuWordsTest reload vcpus) _ (answers-passed (planTests b reload vcpus tasks room) tt tt e .0) in
+    let second = passed-first (taskWordsTest vcpus tasks room) _ (first .1) in
+    let from-18 = passed-later seventeen (eighteen ++ (nineteen ++ twenty)) (second .1) in
+    let from-19 = passed-later eighteen (nineteen ++ twenty) from-18 in
+    record {
+      vcpu-words = first .0;
+      task-words = second .0;
+      vcpus = each-passed 17 (badVcpu b vcpus) (vcpuRows vcpus) (passed-earlier seventeen (eighteen ++ (nineteen ++ twenty)) (second .1));
+      tasks = each-passed 18 (badTask b vcpus tasks) n (passed-earlier eighteen (nineteen ++ twenty) from-18);
+      order = each-passed 19 (badOrder tasks) n (passed-earlier nineteen twenty from-19);
+    }
 
 ranged : (limit x : ℕ) → zeroOrAbove limit x ≡ false → (1 ≤ x) × (x ≤ limit)
 ranged limit x e =
     let r = neither (eqb x 0) (ltb limit x) e in
     (pos-of-ne-zero (eqb-false x 0 (r .0)), ltb-false limit x (r .1))
 
-sized : (reload : ℕ) (vcpus tasks : List ℕ) (room : ℕ) → vcpuWordsTest reload vcpus .fails ≡ false → taskWordsTest vcpus tasks room .fails ≡ false
-    → Sized reload vcpus tasks room
-sized reload vcpus tasks room e f =
-    let v = neither (ltb 10000 reload) _ e in
-    let w = neither (zeroOrAbove 64 (length vcpus)) _ (v .1) in
-    let vs = ranged 64 (length vcpus) (w .0) in
-    let vw = eqb-true (length vcpus % 4) 0 (not-false (eqb (length vcpus % 4) 0) (w .1)) in
-    let t = neither (zeroOrAbove 640 (length tasks)) _ f in
-    let u = neither (not (eqb (length tasks % 20) 0)) _ (t .1) in
-    let ts = ranged 640 (length tasks) (t .0) in
-    let tw = eqb-true (length tasks % 20) 0 (not-false (eqb (length tasks % 20) 0) (u .0)) in
-    record {
-      reload-high = ltb-false 10000 reload (v .0);
-      vcpus-low = omega (arith, vs, vw);
-      vcpus-high = omega (arith, vs, vw);
-      vcpu-words = omega (arith, vw);
-      tasks-low = omega (arith, ts, tw);
-      tasks-high = omega (arith, ts, tw);
-      task-words = omega (arith, tw);
-      roomy = ltb-false room (vcpuRows vcpus + taskRows tasks) (u .1);
-    }
+module _ (b : Board) (vcpus tasks : List ℕ) where
+  vcpu-row : (i : ℕ) → i < vcpuRows vcpus → badVcpu b vcpus i ≡ false → VcpuRow vcpus i × (domain vcpus i < b .domains)
+  vcpu-row i h e =
+      let d = neither (not (ltb (domain vcpus i) (b .domains))) _ (neither (ltb 3 (core vcpus i)) _ e .1) in
+      let r = neither (zeroOrAbove 1000000 (vcpuPeriod vcpus i)) _ (d .1) in
+      let q = ranged (vcpuPeriod vcpus i) (budget vcpus i) (r .1) in
+      let row : VcpuRow vcpus i = record { whole = omega arith; period-high = ranged 1000000 (vcpuPeriod vcpus i) (r .0) .1; budget-low = q .0; budget-high = q .1 } in
+      (row, ltb-true _ _ (not-false _ (d .0)))
 
-vcpu-accepted : (b : Board) (vcpus : List ℕ) (i : ℕ) → i < vcpuRows vcpus → badVcpu b vcpus i ≡ false → VcpuAccepted b vcpus i
-vcpu-accepted b vcpus i h e =
-    let c = neither (ltb 3 (core vcpus i)) _ e in
-    let d = neither (not (ltb (domain vcpus i) (b .domains))) _ (c .1) in
-    let r = neither (zeroOrAbove 1000000 (vcpuPeriod vcpus i)) _ (d .1) in
-    let p = ranged 1000000 (vcpuPeriod vcpus i) (r .0) in
-    let q = ranged (vcpuPeriod vcpus i) (budget vcpus i) (r .1) in
-    record {
-      whole = omega arith;
-      core-high = ltb-false 3 (core vcpus i) (c .0);
-      domain-below = ltb-true (domain vcpus i) (b .domains) (not-false (ltb (domain vcpus i) (b .domains)) (d .0));
-      period-low = p .0;
-      period-high = p .1;
-      budget-low = q .0;
-      budget-high = q .1;
-    }
+  -- a row whose VCPU is given, and whose set lies in a grant of a board that passes 2 to 7
+  module _ (j : ℕ) (h : j < taskRows tasks) (e : badTask b vcpus tasks j ≡ false) where
+    abbrev s : ℕ
+    s = colourSet tasks j
 
-task-accepted : (b : Board) (vcpus tasks : List ℕ) (j : ℕ) → j < taskRows tasks → badTask b vcpus tasks j ≡ false → TaskAccepted b vcpus tasks j
-task-accepted b vcpus tasks j h e =
-    let s : ℕ = colourSet tasks j in
-    let g : ℕ = grant b (domain vcpus (vcpuOf tasks j)) in
-    let v = neither (not (ltb (vcpuOf tasks j) (vcpuRows vcpus))) _ e in
-    let p = neither (zeroOrAbove 1000000 (taskPeriod tasks j)) _ (v .1) in
-    let d = neither (zeroOrAbove (taskPeriod tasks j) (deadline tasks j)) _ (p .1) in
-    let r = neither (emptyOrOutside g s) (any (badCost tasks j) (from 1 16)) (d .1) in
-    let set = neither (eqb s 0) (not (eqb (bitAnd s g) s)) (r .0) in
-    let period = ranged 1000000 (taskPeriod tasks j) (p .0) in
-    let due = ranged (taskPeriod tasks j) (deadline tasks j) (d .0) in
-    record {
-      whole = omega arith;
-      vcpu-below = ltb-true (vcpuOf tasks j) (vcpuRows vcpus) (not-false (ltb (vcpuOf tasks j) (vcpuRows vcpus)) (v .0));
-      period-low = period .0;
-      period-high = period .1;
-      due-low = due .0;
-      due-high = due .1;
-      some = pos-of-ne-zero (eqb-false s 0 (set .0));
-      inside = eqb-true (bitAnd s g) s (not-false (eqb (bitAnd s g) s) (set .1));
-      costs = λ k l m. ranged 1000000 (costWith tasks j k) (neither (zeroOrAbove 1000000 (costWith tasks j k)) _ (any-from (badCost tasks j) 16 1 k (r .1) l (omega arith)) .0);
-    }
+    abbrev g : ℕ
+    g = grant b (domain vcpus (vcpuOf tasks j))
 
-never-descends : (tasks : List ℕ) → ((j : ℕ) → j < taskRows tasks → descends tasks j ≡ false) → Ascending tasks
-never-descends tasks none j h =
+    named : vcpuOf tasks j < vcpuRows vcpus
+    named = ltb-true _ _ (not-false _ (neither (not (ltb (vcpuOf tasks j) (vcpuRows vcpus))) _ e .0))
+
+    task-row : g < 2 ^ b .colours → b .colours ≤ 16 → TaskRow tasks j
+    unfolding cost
+    task-row below few =
+        let v = neither (not (ltb (vcpuOf tasks j) (vcpuRows vcpus))) _ e in
+        let t = neither (badTimes (taskPeriod tasks j) (deadline tasks j)) _ (v .1) in
+        let p = neither (zeroOrAbove 1000000 (taskPeriod tasks j)) _ (t .0) in
+        let r = neither (emptyOrOutside g s) (any (badCost tasks j) (from 1 16)) (t .1) in
+        let set = neither (eqb s 0) (not (eqb (bitAnd s g) s)) (r .0) in
+        let period = ranged 1000000 (taskPeriod tasks j) (p .0) in
+        let due = ranged (taskPeriod tasks j) (deadline tasks j) (p .1) in
+        let inside : s ≤ g = rw (eqb-true (bitAnd s g) s (not-false _ (set .1))) at (and-le-r s g) in
+        let low : 1 ≤ ones s = ones-pos s (pos-of-ne-zero (eqb-false s 0 (set .0))) in
+        let high : ones s ≤ 16 = omega (arith, ones-le (b .colours) s (lt-of-le-of-lt inside below), few) in
+        let c = ranged 1000000 (costWith tasks j (ones s)) (neither (zeroOrAbove 1000000 (costWith tasks j (ones s))) _ (any-from (badCost tasks j) 16 1 (ones s) (r .1) low (omega arith)) .0) in
+        record {
+          whole = omega arith;
+          period-low = period .0;
+          period-high = period .1;
+          due-low = due .0;
+          due-high = due .1;
+          colours-low = low;
+          colours-high = high;
+          cost-low = c .0;
+          cost-high = c .1;
+        }
+
+in-order : (tasks : List ℕ) → ((j : ℕ) → j < taskRows tasks → badOrder tasks j ≡ false) → Ascending tasks
+in-order tasks none j h =
     let back : j + 1 - 1 ≡ j = omega arith in
-    let here : descends tasks (j + 1) ≡ false = none (j + 1) h in
+    let here : badOrder tasks (j + 1) ≡ false = none (j + 1) h in
     ltb-false (vcpuOf tasks (j + 1)) (vcpuOf tasks j) (rw (lt-ltb 0 (j + 1) (omega arith), back) at here)
 
-pub accepted : (b : Board) (reload : ℕ) (vcpus tasks : List ℕ) (room : ℕ) → planReply b reload vcpus tasks room ≡ Answers tt
-    → PlanAccepted b reload vcpus tasks room
-unfolding planReply planTests
-accepted b reload vcpus tasks room e =
-    let n : ℕ = taskRows tasks in
-    let tests-17 : List Test = each (vcpuRows vcpus) 17 (badVcpu b vcpus) in
-    let tests-18 : List Test = each n 18 (badTask b vcpus tasks) in
-    let tests-19 : List Test = each n 19 (descends tasks) in
-    let tests-20 : List Test = each n 20 (sharesColour tasks) in
-    let first = passed-first (vcpuWordsTest reload vcpus) _ (answers-passed (planTests b reload vcpus tasks room) tt tt e .0) in
-    let second = passed-first (taskWordsTest vcpus tasks room) (tests-17 ++ (tests-18 ++ (tests-19 ++ tests-20))) (first .1) in
-    let from-18 = passed-later tests-17 (tests-18 ++ (tests-19 ++ tests-20)) (second .1) in
-    let from-19 = passed-later tests-18 (tests-19 ++ tests-20) from-18 in
-    let p-17 = each-passed 17 (badVcpu b vcpus) (vcpuRows vcpus) (passed-earlier tests-17 (tests-18 ++ (tests-19 ++ tests-20)) (second .1)) in
-    let p-18 = each-passed 18 (badTask b vcpus tasks) n (passed-earlier tests-18 (tests-19 ++ tests-20) from-18) in
-    let p-19 = each-passed 19 (descends tasks) n (passed-earlier tests-19 tests-20 from-19) in
-    record {
-      sized = sized reload vcpus tasks room (first .0) (second .0);
-      vcpu = λ i h. vcpu-accepted b vcpus i h (p-17 i h);
-      task = λ j h. task-accepted b vcpus tasks j h (p-18 j h);
-      ascending = never-descends tasks p-19;
-    }
+module _ (b : Board) (reload : ℕ) (vcpus tasks : List ℕ) (room : ℕ) (answered : planReply b reload vcpus tasks room ≡ Answers tt) where
+  abbrev passed : Tested b reload vcpus tasks room
+  passed = tested b reload vcpus tasks room answered
 
--- what a board that passes 2 to 7 gives of a domain's grant
-grant-below : (b : Board) (words : ℕ) → passes (boardTests b words) ≡ true → (d : ℕ) → d < b .domains
-    → (grant b d < 2 ^ b .colours) × (b .colours ≤ 16)
-unfolding boardTests sizeTests domainTests
-grant-below b words e d h =
-    let n : ℕ = b .domains in
-    let five : ℕ → Bool = λ (x : ℕ). not (isColourSet (b .colours) (grant b x)) in
-    let six : ℕ → Bool = λ (x : ℕ). sharesWithAnother b x in
-    let seven : ℕ → Bool = λ (x : ℕ). emptyOrOutside (grant b x) (activeSet b x) in
-    let count = passed-first _ _ (passed-earlier (sizeTests b words) (domainTests b) e) .0 in
-    let tests = passed-later (sizeTests b words) (domainTests b) e in
-    let first = passed-earlier (each n 5 five) (each n 6 six) (passed-earlier (each n 5 five ++ each n 6 six) (each n 7 seven) tests) in
-    let set = not-false (isColourSet (b .colours) (grant b d)) (each-passed 5 five n first d h) in
-    (colour-set (b .colours) (grant b d) set .below, count-range (b .colours) (not-false (isColourCount (b .colours)) count) .1)
+  pub roomy : vcpuRows vcpus + taskRows tasks ≤ room
+  roomy =
+      ltb-false room _
+      (neither (not (eqb (length tasks % 20) 0)) _ (neither (zeroOrAbove 640 (length tasks)) _ (passed .task-words) .1) .1)
 
--- the colours that a task holds and its cost
-pub record Costed (tasks : List ℕ) (j : ℕ) : Type 0 where
-  pub colours-low : 1 ≤ ones (colourSet tasks j)
-  pub colours-high : ones (colourSet tasks j) ≤ 16
-  pub cost-low : 1 ≤ cost tasks j
-  pub cost-high : cost tasks j ≤ 1000000
-
-pub costed : (b : Board) (words reload : ℕ) (vcpus tasks : List ℕ) (room : ℕ) → passes (boardTests b words) ≡ true
-    → PlanAccepted b reload vcpus tasks room → (j : ℕ) → j < taskRows tasks → Costed tasks j
-unfolding cost
-costed b words reload vcpus tasks room e a j h =
-    let t = a .task j h in
-    let s : ℕ = colourSet tasks j in
-    let d : ℕ = domain vcpus (vcpuOf tasks j) in
-    let g = grant-below b words e d (a .vcpu (vcpuOf tasks j) (t .vcpu-below) .domain-below) in
-    let within : s ≤ grant b d = rw (t .inside) at (and-le-r s (grant b d)) in
-    let few = ones-le (b .colours) s (lt-of-le-of-lt within (g .0)) in
-    let low : 1 ≤ ones s = ones-pos s (t .some) in
-    let high : ones s ≤ 16 = omega (arith, few, g .1) in
-    let range = t .costs (ones s) low high in
-    record { colours-low = low; colours-high = high; cost-low = range .0; cost-high = range .1 }
+  pub valid : boardReply b (b .frames) ≡ Answers tt → Plan reload vcpus tasks
+  unfolding boardReply
+  valid e =
+      let board = split b (b .frames) (answers-passed (boardTests b (b .frames)) tt tt e .0) in
+      let v = neither (ltb 10000 reload) _ (passed .vcpu-words) in
+      let row = λ (i : ℕ) (h : i < vcpuRows vcpus). vcpu-row b vcpus tasks i h (passed .vcpus i h) in
+      let name = λ (j : ℕ) (h : j < taskRows tasks). named b vcpus tasks j h (passed .tasks j h) in
+      record {
+        reload-high = ltb-false 10000 reload (v .0);
+        vcpus-few = omega (arith, ranged 64 (length vcpus) (neither (zeroOrAbove 64 (length vcpus)) _ (v .1) .0));
+        vcpu = λ i h. row i h .0;
+        tasks-few = omega (arith, ranged 640 (length tasks) (neither (zeroOrAbove 640 (length tasks)) _ (passed .task-words) .0));
+        task = λ j h. (let d : ℕ = domain vcpus (vcpuOf tasks j) in task-row b vcpus tasks j h (passed .tasks j h) (colour-set (b .colours) (grant b d) (not-false _ (board .grants d (row _ (name j h) .1))) .below) (count-range (b .colours) (board .count) .1));
+        names = name;
+        ascending = in-order tasks (passed .order);
+      }

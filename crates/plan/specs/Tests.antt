@@ -47,12 +47,12 @@ badTask b vcpus tasks j =
     || (emptyOrOutside (grant b (domain vcpus (vcpuOf tasks j))) (colourSet tasks j) || any (badCost tasks j) (from 1 16)))
 
 -- 19: it names a lower VCPU than the row before
-abbrev pub lowerVcpu : List ℕ → ℕ → Bool
-lowerVcpu tasks j = ltb 0 j && ltb (vcpuOf tasks j) (vcpuOf tasks (j - 1))
+abbrev pub badOrder : List ℕ → ℕ → Bool
+badOrder tasks j = ltb 0 j && ltb (vcpuOf tasks j) (vcpuOf tasks (j - 1))
 
 -- 20: it shares a colour with a row of another VCPU
-abbrev pub sharedColour : List ℕ → ℕ → Bool
-sharedColour tasks j =
+abbrev pub sharesColour : List ℕ → ℕ → Bool
+sharesColour tasks j =
     any (λ (k : ℕ). not (eqb (vcpuOf tasks k) (vcpuOf tasks j)) && shares (colourSet tasks j) (colourSet tasks k)) (upto (taskRows tasks))
 
 -- 17 to 20, each over all rows before the next
@@ -60,7 +60,7 @@ unfoldable pub rowTests : Board → List ℕ → List ℕ → List Test
 rowTests b vcpus tasks =
     each (vcpuRows vcpus) 17 (badVcpu b vcpus)
     ++ (each (taskRows tasks) 18 (badTask b vcpus tasks)
-    ++ (each (taskRows tasks) 19 (lowerVcpu tasks) ++ each (taskRows tasks) 20 (sharedColour tasks)))
+    ++ (each (taskRows tasks) 19 (badOrder tasks) ++ each (taskRows tasks) 20 (sharesColour tasks)))
 
 unfoldable pub planTests : Board → ℕ → List ℕ → List ℕ → ℕ → List Test
 planTests b reload vcpus tasks room = vcpuWordsTest reload vcpus ∷ taskWordsTest vcpus tasks room ∷ rowTests b vcpus tasks

@@ -8,11 +8,11 @@ ghost use Rattle.lists.specs.Range.{lowest};
 ghost use Rattle.refusal.specs.Reply.{unless};
 ghost use Rattle.board.specs.Paper.{paperChecked};
 ghost use Rattle.rows.specs.Words.{taskRows};
-ghost use Rattle.plan.specs.Tests.{badVcpu, badTask, lowerVcpu, sharedColour, rowTests, planReply};
+ghost use Rattle.plan.specs.Tests.{badVcpu, badTask, badOrder, sharesColour, rowTests, planReply};
 use crate::fields::bad_task;
 use crate::fields::bad_vcpu;
-use crate::fields::lower_vcpu;
-use crate::fields::shared_colour;
+use crate::fields::bad_order;
+use crate::fields::shares_colour;
 use board::Board;
 use board::Checked;
 use refusal::Refusal;
@@ -47,7 +47,7 @@ fn check_rows(board: Board, vcpus: &[u32], tasks: &[u32]) -> Checked
     ensures { λ r. ⌜ paperChecked r ≡ unless (rowTests board (now (vcpus .entry)) (now (tasks .entry))) tt ⌝ }
 {
     let vcpu_rows = (vcpus.len() / VCPU_WORDS) as u32;
-    let vcpu = first_bad_vcpu(board, vcpus, vcpu_rows);
+    let vcpu = wrong_vcpu(board, vcpus, vcpu_rows);
     if vcpu < vcpu_rows {
         return Checked::Refused(Refusal {
             number: 17,
@@ -55,21 +55,21 @@ fn check_rows(board: Board, vcpus: &[u32], tasks: &[u32]) -> Checked
         });
     }
     let rows = (tasks.len() / TASK_WORDS) as u32;
-    let task = first_bad_task(board, vcpus, tasks, rows);
+    let task = wrong_task(board, vcpus, tasks, rows);
     if task < rows {
         return Checked::Refused(Refusal {
             number: 18,
             row: task,
         });
     }
-    let lower = first_lower_vcpu(tasks, rows);
-    if lower < rows {
+    let order = wrong_order(tasks, rows);
+    if order < rows {
         return Checked::Refused(Refusal {
             number: 19,
-            row: lower,
+            row: order,
         });
     }
-    let sharing = first_shared_colour(tasks, rows);
+    let sharing = shared_colour(tasks, rows);
     if sharing < rows {
         return Checked::Refused(Refusal {
             number: 20,
@@ -80,7 +80,7 @@ fn check_rows(board: Board, vcpus: &[u32], tasks: &[u32]) -> Checked
 }
 
 // 17: the lowest VCPU row with a field outside its range.
-fn first_bad_vcpu(board: Board, vcpus: &[u32], rows: u32) -> u32
+fn wrong_vcpu(board: Board, vcpus: &[u32], rows: u32) -> u32
     ensures { λ r. ⌜ r ≡ lowest (badVcpu board (now (vcpus .entry))) rows ⌝ }
 {
     let mut i: u32 = 0;
@@ -94,7 +94,7 @@ fn first_bad_vcpu(board: Board, vcpus: &[u32], rows: u32) -> u32
 }
 
 // 18: the lowest task row with a field or cost outside its rule.
-fn first_bad_task(board: Board, vcpus: &[u32], tasks: &[u32], rows: u32) -> u32
+fn wrong_task(board: Board, vcpus: &[u32], tasks: &[u32], rows: u32) -> u32
     requires { ⌜ rows ≡ taskRows (now tasks) ⌝ }
     ensures { λ r. ⌜ r ≡ lowest (badTask board (now (vcpus .entry)) (now (tasks .entry))) rows ⌝ }
 {
@@ -109,12 +109,12 @@ fn first_bad_task(board: Board, vcpus: &[u32], tasks: &[u32], rows: u32) -> u32
 }
 
 // 19: the lowest task row that names a lower VCPU than the row before.
-fn first_lower_vcpu(tasks: &[u32], rows: u32) -> u32
-    ensures { λ r. ⌜ r ≡ lowest (lowerVcpu (now (tasks .entry))) rows ⌝ }
+fn wrong_order(tasks: &[u32], rows: u32) -> u32
+    ensures { λ r. ⌜ r ≡ lowest (badOrder (now (tasks .entry))) rows ⌝ }
 {
     let mut j: u32 = 0;
     while j < rows {
-        if lower_vcpu(tasks, j) {
+        if bad_order(tasks, j) {
             return j;
         }
         j += 1;
@@ -123,13 +123,13 @@ fn first_lower_vcpu(tasks: &[u32], rows: u32) -> u32
 }
 
 // 20: the lowest task row that shares a colour with a row of another VCPU.
-fn first_shared_colour(tasks: &[u32], rows: u32) -> u32
+fn shared_colour(tasks: &[u32], rows: u32) -> u32
     requires { ⌜ rows ≡ taskRows (now tasks) ⌝ }
-    ensures { λ r. ⌜ r ≡ lowest (sharedColour (now (tasks .entry))) rows ⌝ }
+    ensures { λ r. ⌜ r ≡ lowest (sharesColour (now (tasks .entry))) rows ⌝ }
 {
     let mut j: u32 = 0;
     while j < rows {
-        if shared_colour(tasks, rows, j) {
+        if shares_colour(tasks, rows, j) {
             return j;
         }
         j += 1;

@@ -8,8 +8,9 @@ ghost use lib.ListN.{length};
 ghost use Rattle.lists.specs.Range.{from, any};
 ghost use Rattle.board.specs.Tests.{grant, emptyOrOutside};
 ghost use Rattle.rows.specs.Words.{taskWord, domain, taskRows};
-ghost use Rattle.plan.specs.Tests.{zeroOrAbove, badTimes, badVcpu, badCost, badTask, lowerVcpu, sharedColour};
+ghost use Rattle.plan.specs.Tests.{zeroOrAbove, badTimes, badVcpu, badCost, badTask, badOrder, sharesColour};
 use board::Board;
+use board::grant_of;
 use rows::TASK_DEADLINE;
 use rows::TASK_PERIOD;
 use rows::TASK_SET;
@@ -49,19 +50,6 @@ pub(crate) fn bad_vcpu(board: Board, vcpus: &[u32], row: u32) -> bool
     let period = vcpu_word(vcpus, row, VCPU_PERIOD);
     let budget = vcpu_word(vcpus, row, VCPU_BUDGET);
     (LAST_CORE < core) | (!(domain < board.domains) | bad_times(period, budget))
-}
-
-// The board holds eight grants; a domain past them has none.
-fn grant_of(board: Board, domain: u32) -> u32
-    ensures { λ r. ⌜ r ≡ grant board domain ⌝ }
-{
-    let grants = board.grants;
-    if domain < 8 {
-        let k = domain as usize;
-        grants[k]
-    } else {
-        0
-    }
 }
 
 // The set is empty, or outside the grant of its VCPU's domain.
@@ -113,17 +101,17 @@ pub(crate) fn bad_task(board: Board, vcpus: &[u32], tasks: &[u32], row: u32) -> 
 }
 
 // 19: a lower VCPU than the row before.
-pub(crate) fn lower_vcpu(tasks: &[u32], row: u32) -> bool
-    ensures { λ r. ⌜ r ≡ lowerVcpu (now (tasks .entry)) row ⌝ }
+pub(crate) fn bad_order(tasks: &[u32], row: u32) -> bool
+    ensures { λ r. ⌜ r ≡ badOrder (now (tasks .entry)) row ⌝ }
 {
     0 < row && task_word(tasks, row, TASK_VCPU) < task_word(tasks, row - 1, TASK_VCPU)
 }
 
 // 20: a colour in common with a row of another VCPU. Where no lower row has one, the rows after it are
 // left to be looked at.
-pub(crate) fn shared_colour(tasks: &[u32], rows: u32, row: u32) -> bool
-    requires { ⌜ (rows ≡ taskRows (now tasks)) × (row < rows) × ((i : ℕ) → i < row → sharedColour (now tasks) i ≡ false) ⌝ }
-    ensures { λ r. ⌜ r ≡ sharedColour (now (tasks .entry)) row ⌝ }
+pub(crate) fn shares_colour(tasks: &[u32], rows: u32, row: u32) -> bool
+    requires { ⌜ (rows ≡ taskRows (now tasks)) × (row < rows) × ((i : ℕ) → i < row → sharesColour (now tasks) i ≡ false) ⌝ }
+    ensures { λ r. ⌜ r ≡ sharesColour (now (tasks .entry)) row ⌝ }
 {
     let vcpu = known_word(tasks, row, TASK_VCPU);
     let set = known_word(tasks, row, TASK_SET);

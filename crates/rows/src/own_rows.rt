@@ -2,16 +2,14 @@
 // another VCPU". It is that piece of the caller's own list; a VCPU without rows has an empty one, and
 // words short of a row belong to none.
 ghost use mathlib.Core.Path.{_≡_};
-ghost use mathlib.Core.Bool.{not};
 ghost use Prim.Native.Nat.{_≤_};
-ghost use Rattle.lists.specs.Range.{lowestFrom};
 ghost use Rattle.rows.specs.Words.{taskRows};
-ghost use Rattle.rows.specs.Part.{isRowOf, partStart, partFrom, partOf};
+ghost use Rattle.rows.specs.Part.{nextOwn, nextOther, partStart, partFrom, partOf};
 use crate::TASK_WORDS;
 
 // The next row of the VCPU from a row on, or the number of rows where there is none.
 pub fn next_own(tasks: &[u32], from: usize, vcpu: u32) -> usize
-    ensures { λ r. ⌜ r ≡ lowestFrom (isRowOf (now (tasks .entry)) vcpu) from (taskRows (now (tasks .entry))) ⌝ }
+    ensures { λ r. ⌜ r ≡ nextOwn (now (tasks .entry)) from vcpu ⌝ }
 {
     let rows = tasks.len() / TASK_WORDS;
     let mut j = from;
@@ -34,7 +32,7 @@ pub fn part_start(tasks: &[u32], vcpu: u32) -> usize
 // The next row of another VCPU from a row on, or the number of rows where there is none.
 fn next_other(tasks: &[u32], start: usize, vcpu: u32) -> usize
     requires { ⌜ start ≤ taskRows (now tasks) ⌝ }
-    ensures { λ r. ⌜ r ≡ lowestFrom (λ j. not (isRowOf (now (tasks .entry)) vcpu j)) start (taskRows (now (tasks .entry))) ⌝ }
+    ensures { λ r. ⌜ r ≡ nextOther (now (tasks .entry)) start vcpu ⌝ }
 {
     let rows = tasks.len() / TASK_WORDS;
     let mut j = start;

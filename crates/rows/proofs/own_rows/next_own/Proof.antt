@@ -1,22 +1,16 @@
--- `rows::own_rows::next_own` meets its contract. The invariant: the next row of the VCPU is looked for from `j` on.
-use Prim.Native.Nat.{ℕ, _-_}
+-- `rows::own_rows::next_own` meets its contract. The invariant: the next row of the VCPU is looked for from `j` on, which may be past the rows.
+use Prim.Native.Nat.{_-_}
 use native.Mathlib.Omega.{arith}
-use mathlib.Core.Bool.{true, false}
-use mathlib.Core.List.{List}
-use mathlib.Core.Path.{_≡_, refl, sym, ap, _∙_}
-use lib.Dec.{eqb}
-use lib.ListN.{getD}
-use borrow.Author.Tests.{eq-eqb, ne-eqb}
-use Rattle.lists.specs.Range.{lowestFrom}
+use mathlib.Core.Path.{_≡_, refl, sym, _∙_}
 use Rattle.lists.proofs.Sought.{sought-hit, sought-miss, sought-end}
 use Rattle.rows.specs.Words.{taskRows}
-use Rattle.rows.specs.Part.{isRowOf}
-use Rattle.rows.proofs.Parts.{at-first}
+use Rattle.rows.specs.Part.{nextOwn}
+use Rattle.rows.proofs.Parts.{is-own, not-own}
 use Rattle.rows.proofs.own_rows.next_own.Statement.{statement}
 use Rattle.rows.proofs.own_rows.next_own.Tie as tie
 
 abbrev Inv-loop : tie.InvT-loop
-Inv-loop tasks from vcpu rows j₀ j = (rows ≡ taskRows tasks) × (lowestFrom (isRowOf tasks vcpu) from (taskRows tasks) ≡ lowestFrom (isRowOf tasks vcpu) j (taskRows tasks))
+Inv-loop tasks from vcpu rows j₀ j = (rows ≡ taskRows tasks) × (nextOwn tasks from vcpu ≡ nextOwn tasks j vcpu)
 
 abbrev μ-loop : tie.MeasureT-loop
 μ-loop tasks from vcpu rows j₀ j = rows - j
@@ -35,11 +29,8 @@ shared-slice-read-if1 c = omega arith
 
 returns : tie.Need-returns Inv-loop μ-loop
 returns c =
-    let a = c .before .before .before .before .args in
-    let t : List ℕ = a .tasks .now in
-    let h = c .before .before .before .loop in
-    let here : isRowOf t (a .vcpu) (h .j) ≡ true = ap (λ (k : ℕ). eqb (getD t k 0) (a .vcpu)) (at-first (h .j)) ∙ eq-eqb _ _ (c .if1 .taken) in
-    sym (h .inv .1 ∙ sought-hit (isRowOf t (a .vcpu)) (h .j) (taskRows t) (omega arith) here)
+    let h = c .before .before .before in
+    sym (h .loop .inv .1 ∙ sought-hit _ _ _ (omega arith) (is-own (h .before .args .tasks .now) _ (h .loop .j) (c .if1 .taken)))
 
 add-j : tie.Need-add-j Inv-loop μ-loop
 add-j c = omega arith
@@ -49,31 +40,13 @@ loop-less c = omega arith
 
 loop-again : tie.Need-loop-again Inv-loop μ-loop
 loop-again c =
-    let a = c .before .before .before .before .args in
-    let t : List ℕ = a .tasks .now in
-    let h = c .before .before .before .loop in
-    let here : isRowOf t (a .vcpu) (h .j) ≡ false = ap (λ (k : ℕ). eqb (getD t k 0) (a .vcpu)) (at-first (h .j)) ∙ ne-eqb _ _ (c .if1 .left) in
-    (h .inv .0, h .inv .1 ∙ sought-miss (isRowOf t (a .vcpu)) (h .j) (taskRows t) (omega arith) here)
+    let h = c .before .before .before in
+    (h .loop .inv .0, h .loop .inv .1 ∙ sought-miss _ _ _ (omega arith) (not-own (h .before .args .tasks .now) _ (h .loop .j) (c .if1 .left)))
 
 returns-2 : tie.Need-returns-2 Inv-loop μ-loop
-returns-2 c =
-    let a = c .before .before .args in
-    let t : List ℕ = a .tasks .now in
-    let h = c .before .loop in
-    h .inv .0 ∙ sym (h .inv .1 ∙ sought-end (isRowOf t (a .vcpu)) (h .j) (taskRows t) (omega arith))
+returns-2 c = let h = c .before .loop in h .inv .0 ∙ sym (h .inv .1 ∙ sought-end _ _ _ (omega arith))
 
 pub next-own-spec : {M : Type 1} → statement M
 next-own-spec =
     tie.close
-    (tie.spec
-    Inv-loop
-    μ-loop
-    loop-holds
-    mul-if1
-    mul-if1-2
-    shared-slice-read-if1
-    returns
-    add-j
-    loop-less
-    loop-again
-    returns-2)
+    (tie.spec Inv-loop μ-loop loop-holds mul-if1 mul-if1-2 shared-slice-read-if1 returns add-j loop-less loop-again returns-2)

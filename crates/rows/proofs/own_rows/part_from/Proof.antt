@@ -1,25 +1,21 @@
 -- `rows::own_rows::part_from` meets its contract: both ends of the part lie within the whole rows.
-use Prim.Native.Nat.{ℕ, _≤_}
+use Prim.Native.Nat.{_≤_}
 use native.Mathlib.Omega.{arith}
-use mathlib.Core.Bool.{Bool, not}
-use Rattle.lists.proofs.Found.{sought-le}
 use Rattle.rows.specs.Words.{taskRows}
-use Rattle.rows.specs.Part.{isRowOf, rowsFrom, partFrom}
-use Rattle.rows.proofs.Parts.{sought-within, sought-ge}
+use Rattle.rows.specs.Part.{rowsFrom, partFrom}
+use Rattle.rows.proofs.Parts.{own, other, sought-within, sought-ge}
 use borrow.Author.Needs.{needs}
 use Rattle.rows.proofs.own_rows.part_from.Statement.{statement}
 use Rattle.rows.proofs.own_rows.part_from.Tie as tie
 
-abbrev other : tie.After-next-other → ℕ → Bool
-other c j = not (isRowOf (c .before .before .before .args .tasks .now) (c .before .before .before .args .vcpu) j)
-
 start : (c : tie.After-next-own) → c .next-own .result ≤ taskRows (c .before .before .args .tasks .now)
-start c = rw (c .next-own .ensures) (sought-within (isRowOf (c .before .before .args .tasks .now) (c .before .before .args .vcpu)) (c .before .before .args .from) _)
+start c = let a = c .before .before .args in rw (c .next-own .ensures) (sought-within (own (a .tasks .now) (a .vcpu)) (a .from) _)
 
 end : (c : tie.After-next-other) → (c .before .next-own .result ≤ c .next-other .result) × (c .next-other .result ≤ taskRows (c .before .before .before .args .tasks .now))
 end c =
-    rw (c .next-other .ensures)
-    (sought-ge (other c) (c .before .next-own .result) _ (start (c .before)), sought-le (other c) (c .before .next-own .result) _ (start (c .before)))
+    let a = c .before .before .before .args in
+    let p = other (a .tasks .now) (a .vcpu) in
+    rw (c .next-other .ensures) (sought-ge p (c .before .next-own .result) _ (start (c .before)), sought-within p (c .before .next-own .result) _)
 
 next-own-requires : tie.Need-next-own-requires
 next-own-requires c κs = search needs
@@ -28,22 +24,22 @@ next-other-requires : tie.Need-next-other-requires
 next-other-requires c κs = start c
 
 mul-first : tie.Need-mul-first
-mul-first c = omega (arith, start (c .before), end c)
+mul-first c = omega (arith, end c)
 
 mul-last : tie.Need-mul-last
-mul-last c = omega (arith, start (c .before), end c)
+mul-last c = omega (arith, end c)
 
 mul-result : tie.Need-mul-result
-mul-result c = omega (arith, start (c .before), end c)
+mul-result c = omega (arith, end c)
 
 sub-result : tie.Need-sub-result
-sub-result c = omega (arith, start (c .before), end c)
+sub-result c = omega (arith, end c)
 
 part-result-start : tie.Need-part-result-start
-part-result-start c = omega (arith, start (c .before), end c)
+part-result-start c = omega (arith, end c)
 
 part-result-end : tie.Need-part-result-end
-part-result-end c = omega (arith, start (c .before), end c)
+part-result-end c = omega (arith, end c)
 
 returns : tie.Need-returns
 unfolding partFrom rowsFrom
@@ -52,13 +48,4 @@ returns c = rw (c .before .next-other .ensures, c .before .before .next-own .ens
 pub part-from-spec : {M : Type 1} → statement M
 part-from-spec =
     tie.close
-    (tie.spec
-    next-own-requires
-    next-other-requires
-    mul-first
-    mul-last
-    mul-result
-    sub-result
-    part-result-start
-    part-result-end
-    returns)
+    (tie.spec next-own-requires next-other-requires mul-first mul-last mul-result sub-result part-result-start part-result-end returns)

@@ -1,6 +1,5 @@
 -- `rows::own_rows::part_start` meets its contract: the first row is the next one from row 0 on.
-use mathlib.Core.Path.{sym, _∙_}
-use Rattle.rows.proofs.Parts.{start-sought}
+use Rattle.rows.specs.Part.{partStart}
 use borrow.Author.Needs.{needs}
 use Rattle.rows.proofs.own_rows.part_start.Statement.{statement}
 use Rattle.rows.proofs.own_rows.part_start.Tie as tie
@@ -9,7 +8,8 @@ next-own-requires : tie.Need-next-own-requires
 next-own-requires c κs = search needs
 
 returns : tie.Need-returns
-returns c = c .next-own .ensures ∙ sym (start-sought (c .before .before .args .tasks .now) (c .before .before .args .vcpu))
+unfolding partStart
+returns c = c .next-own .ensures
 
 pub part-start-spec : {M : Type 1} → statement M
 part-start-spec = tie.close (tie.spec next-own-requires returns)

@@ -1,4 +1,4 @@
--- `plan::fields::shared_colour` meets its contract. The invariant: whether another VCPU's row shares a colour is asked from `k` on, and of the rows after it alone.
+-- `plan::fields::shares_colour` meets its contract. The invariant: whether another VCPU's row shares a colour is asked from `k` on, and of the rows after it alone.
 use Prim.Native.Nat.{_-_, _≤_}
 use native.Mathlib.Omega.{arith}
 use mathlib.Core.Bool.{true, false}
@@ -7,13 +7,13 @@ use mathlib.Core.Path.{_≡_, sym, _∙_}
 use borrow.Author.Tests.{eq-eqb, ne-eqb}
 use Rattle.lists.proofs.Sought.{anyAhead, any-hit, any-miss, any-end}
 use Rattle.rows.specs.Words.{vcpuOf, colourSet, taskRows}
-use Rattle.plan.specs.Tests.{sharedColour}
+use Rattle.plan.specs.Tests.{sharesColour}
 use Rattle.plan.proofs.Sharing.{sharing, shares-later}
-use Rattle.plan.proofs.fields.shared_colour.Statement.{statement}
-use Rattle.plan.proofs.fields.shared_colour.Tie as tie
+use Rattle.plan.proofs.fields.shares_colour.Statement.{statement}
+use Rattle.plan.proofs.fields.shares_colour.Tie as tie
 
 abbrev Inv-loop : tie.InvT-loop
-Inv-loop tasks rows row vcpu set k₀ k = (k ≤ rows) × (vcpu ≡ vcpuOf tasks row) × (set ≡ colourSet tasks row) × (sharedColour tasks row ≡ anyAhead (sharing tasks row) k (taskRows tasks))
+Inv-loop tasks rows row vcpu set k₀ k = (k ≤ rows) × (vcpu ≡ vcpuOf tasks row) × (set ≡ colourSet tasks row) × (sharesColour tasks row ≡ anyAhead (sharing tasks row) k (taskRows tasks))
 
 abbrev μ-loop : tie.MeasureT-loop
 μ-loop tasks rows row vcpu set k₀ k = rows - k
@@ -69,8 +69,8 @@ returns-2 c =
     let h = c .before .loop in
     sym (h .inv .3 ∙ any-end (sharing (a .tasks .now) (a .row)) (h .k) (taskRows (a .tasks .now)) (omega arith))
 
-pub shared-colour-spec : {M : Type 1} → statement M
-shared-colour-spec =
+pub shares-colour-spec : {M : Type 1} → statement M
+shares-colour-spec =
     tie.close
     (tie.spec
     Inv-loop

@@ -1,0 +1,39 @@
+-- `plan::check::wrong_task` meets its contract. The invariant: the row at fault is looked for from `j` on.
+use Prim.Native.Nat.{_-_}
+use native.Mathlib.Omega.{arith}
+use mathlib.Core.Path.{sym, _∙_}
+use borrow.Author.Needs.{needs}
+use Rattle.lists.proofs.Sought.{Seeking, seek-start, seek-hit, seek-miss, seek-end}
+use Rattle.plan.specs.Tests.{badTask}
+use Rattle.plan.proofs.check.wrong_task.Statement.{statement}
+use Rattle.plan.proofs.check.wrong_task.Tie as tie
+
+abbrev Inv-loop : tie.InvT-loop
+Inv-loop board vcpus tasks rows j₀ j = Seeking (badTask board vcpus tasks) 0 rows j
+
+abbrev μ-loop : tie.MeasureT-loop
+μ-loop board vcpus tasks rows j₀ j = rows - j
+
+loop-holds : tie.Need-loop-holds Inv-loop μ-loop
+loop-holds c = seek-start _ _ _ (omega arith)
+
+bad-task-requires : tie.Need-bad-task-requires Inv-loop μ-loop
+bad-task-requires c κs = search needs
+
+returns : tie.Need-returns Inv-loop μ-loop
+returns c = seek-hit _ (c .before .before .before .loop .inv) (omega arith) (sym (c .before .bad-task .ensures) ∙ c .if1 .taken)
+
+add-j : tie.Need-add-j Inv-loop μ-loop
+add-j c = omega arith
+
+loop-less : tie.Need-loop-less Inv-loop μ-loop
+loop-less c = omega arith
+
+loop-again : tie.Need-loop-again Inv-loop μ-loop
+loop-again c = seek-miss _ (c .before .before .before .loop .inv) (omega arith) (sym (c .before .bad-task .ensures) ∙ c .if1 .left)
+
+returns-2 : tie.Need-returns-2 Inv-loop μ-loop
+returns-2 c = seek-end _ (c .before .loop .inv) (omega arith)
+
+pub wrong-task-spec : {M : Type 1} → statement M
+wrong-task-spec = tie.close (tie.spec Inv-loop μ-loop loop-holds bad-task-requires returns add-j loop-less loop-again returns-2)
