@@ -30,8 +30,8 @@ use Rattle.plan.specs.Tests.{zeroOrAbove, badTimes, vcpuWordsTest, taskW
 pub record Tested (b : Board) (reload : ℕ) (vcpus tasks : List ℕ) (room : ℕ) : Type 0 where
   pub vcpu-words : vcpuWordsTest reload vcpus .fails ≡ false
   pub task-words : taskWordsTest vcpus tasks room .fails ≡ false
-  pub vcpus : (i : ℕ) → i < vcpuRows vcpus → badVcpu b vcpus i ≡ false
-  pub tasks : (j : ℕ) → j < taskRows tasks → badTask b vcpus tasks j ≡ false
+  pub vcpu-rows : (i : ℕ) → i < vcpuRows vcpus → badVcpu b vcpus i ≡ false
+  pub task-rows : (j : ℕ) → j < taskRows tasks → badTask b vcpus tasks j ≡ false
   pub order : (j : ℕ) → j < taskRows tasks → badOrder tasks j ≡ false
 
 tested : (b : Board) (reload : ℕ) (vcpus tasks : List ℕ) (room : ℕ) → planReply b reload vcpus tasks room ≡ Answers tt → Tested b reload vcpus tasks room
@@ -49,8 +49,8 @@ tested b reload vcpus tasks room e =
     record {
       vcpu-words = first .0;
       task-words = second .0;
-      vcpus = each-passed 17 (badVcpu b vcpus) (vcpuRows vcpus) (passed-earlier seventeen (eighteen ++ (nineteen ++ twenty)) (second .1));
-      tasks = each-passed 18 (badTask b vcpus tasks) n (passed-earlier eighteen (nineteen ++ twenty) from-18);
+      vcpu-rows = each-passed 17 (badVcpu b vcpus) (vcpuRows vcpus) (passed-earlier seventeen (eighteen ++ (nineteen ++ twenty)) (second .1));
+      task-rows = each-passed 18 (badTask b vcpus tasks) n (passed-earlier eighteen (nineteen ++ twenty) from-18);
       order = each-passed 19 (badOrder tasks) n (passed-earlier nineteen twenty from-19);
     }
 
@@ -58,6 +58,18 @@ ranged : (limit x : ℕ) → zeroOrAbove limit x ≡ false → (1 ≤ x) × (x �
 ranged limit x e =
     let r = neither (eqb x 0) (ltb limit x) e in
     (pos-of-ne-zero (eqb-false x 0 (r .0)), ltb-false limit x (r .1))
+
+-- 15 and 16
+pub vcpus-most : (reload : ℕ) (vcpus : List ℕ) → vcpuWordsTest reload vcpus .fails ≡ false → (reload ≤ 10000) × (length vcpus ≤ 64)
+vcpus-most reload vcpus e =
+    let v = neither (ltb 10000 reload) _ e in
+    (ltb-false 10000 reload (v .0), ranged 64 (length vcpus) (neither (zeroOrAbove 64 (length vcpus)) _ (v .1) .0) .1)
+
+pub tasks-most : (vcpus tasks : List ℕ) (room : ℕ) → taskWordsTest vcpus tasks room .fails ≡ false
+    → (length tasks ≤ 640) × (vcpuRows vcpus + taskRows tasks ≤ room)
+tasks-most vcpus tasks room e =
+    let t = neither (zeroOrAbove 640 (length tasks)) _ e in
+    (ranged 640 (length tasks) (t .0) .1, ltb-false room _ (neither (not (eqb (length tasks % 20) 0)) _ (t .1) .1))
 
 module _ (b : Board) (vcpus tasks : List ℕ) where
   vcpu-row : (i : ℕ) → i < vcpuRows vcpus → badVcpu b vcpus i ≡ false → VcpuRow vcpus i × (domain vcpus i < b .domains)
@@ -116,23 +128,25 @@ module _ (b : Board) (reload : ℕ) (vcpus tasks : List ℕ) (room : ℕ) (answe
   passed = tested b reload vcpus tasks room answered
 
   pub roomy : vcpuRows vcpus + taskRows tasks ≤ room
-  roomy =
-      ltb-false room _
-      (neither (not (eqb (length tasks % 20) 0)) _ (neither (zeroOrAbove 640 (length tasks)) _ (passed .task-words) .1) .1)
+  roomy = tasks-most vcpus tasks room (passed .task-words) .1
+
+  row : (i : ℕ) → i < vcpuRows vcpus → VcpuRow vcpus i × (domain vcpus i < b .domains)
+  row i h = vcpu-row b vcpus tasks i h (passed .vcpu-rows i h)
+
+  name : (j : ℕ) → j < taskRows tasks → vcpuOf tasks j < vcpuRows vcpus
+  name j h = named b vcpus tasks j h (passed .task-rows j h)
 
   pub valid : boardReply b (b .frames) ≡ Answers tt → Plan reload vcpus tasks
   unfolding boardReply
   valid e =
       let board = split b (b .frames) (answers-passed (boardTests b (b .frames)) tt tt e .0) in
-      let v = neither (ltb 10000 reload) _ (passed .vcpu-words) in
-      let row = λ (i : ℕ) (h : i < vcpuRows vcpus). vcpu-row b vcpus tasks i h (passed .vcpus i h) in
-      let name = λ (j : ℕ) (h : j < taskRows tasks). named b vcpus tasks j h (passed .tasks j h) in
+      let most = vcpus-most reload vcpus (passed .vcpu-words) in
       record {
-        reload-high = ltb-false 10000 reload (v .0);
-        vcpus-few = omega (arith, ranged 64 (length vcpus) (neither (zeroOrAbove 64 (length vcpus)) _ (v .1) .0));
+        reload-high = most .0;
+        vcpus-few = omega (arith, most .1);
         vcpu = λ i h. row i h .0;
-        tasks-few = omega (arith, ranged 640 (length tasks) (neither (zeroOrAbove 640 (length tasks)) _ (passed .task-words) .0));
-        task = λ j h. (let d : ℕ = domain vcpus (vcpuOf tasks j) in task-row b vcpus tasks j h (passed .tasks j h) (colour-set (b .colours) (grant b d) (not-false _ (board .grants d (row _ (name j h) .1))) .below) (count-range (b .colours) (board .count) .1));
+        tasks-few = omega (arith, tasks-most vcpus tasks room (passed .task-words) .0);
+        task = λ j h. (let set = colour-set (b .colours) _ (not-false _ (board .grants _ (row _ (name j h) .1))) in task-row b vcpus tasks j h (passed .task-rows j h) (set .below) (count-range (b .colours) (board .count) .1));
         names = name;
         ascending = in-order tasks (passed .order);
       }

@@ -36,7 +36,7 @@ loop-again c =
     let h = c .before .before .before .loop in
     let here = sym (c .before .shares-colour .ensures) ∙ c .if1 .left in (
       seek-miss _ (h .inv .0) (omega arith) here,
-      λ i l. below-or-not i (h .j) (λ m. h .inv .1 i m) (λ m. let same : i ≡ h .j = omega arith in ap (sharesColour _) same ∙ here),
+      λ i l. below-or-not i (h .j) (λ m. h .inv .1 i m) (λ m. let same : i ≡ h .j = omega arith in ap (sharesColour (c .before .before .before .before .before .args .tasks .now)) same ∙ here),
     )
 
 returns-2 : tie.Need-returns-2 Inv-loop μ-loop

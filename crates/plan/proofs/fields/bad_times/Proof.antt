@@ -1,0 +1,16 @@
+-- `plan::fields::bad_times` meets its contract.
+use borrow.Author.Needs.{needs}
+use Rattle.plan.proofs.fields.bad_times.Statement.{statement}
+use Rattle.plan.proofs.fields.bad_times.Tie as tie
+
+zero-or-above-requires : tie.Need-zero-or-above-requires
+zero-or-above-requires c κs = search needs
+
+zero-or-above-requires-2 : tie.Need-zero-or-above-requires-2
+zero-or-above-requires-2 c κs = search needs
+
+returns : tie.Need-returns
+returns c = rw (c .zero-or-above2 .ensures, c .before .zero-or-above .ensures)
+
+pub bad-times-spec : {M : Type 1} → statement M
+bad-times-spec = tie.close (tie.spec zero-or-above-requires zero-or-above-requires-2 returns)
