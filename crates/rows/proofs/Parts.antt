@@ -7,7 +7,7 @@ use mathlib.Core.Bool.{Bool, true, false, not, false≢true}
 use mathlib.Core.List.{List}
 use mathlib.Core.Path.{_≡_, refl, sym, ap, _∙_}
 use lib.Count.{ones}
-use lib.ListN.{length, getD, drop, length-drop}
+use lib.ListN.{length, getD, take, drop, length-drop}
 use lib.Seq.{length-take-le, getD-take, getD-drop}
 use borrow.Author.Tests.{eqb-true, eqb-false, eq-eqb, ne-eqb, not-true, not-false}
 use Rattle.lists.specs.Range.{lowestFrom}
@@ -75,6 +75,10 @@ module _ (tasks : List ℕ) (v : ℕ) where
   unfolding partFrom partOf
   part-at-start = ap (λ (s : ℕ). rowsFrom tasks s v) (start-from (partStart tasks v) start-le none-before)
 
+  pub part-is : partOf tasks v ≡ take (20 * partEnd tasks v - 20 * partStart tasks v) (drop (20 * partStart tasks v) tasks)
+  unfolding partOf rowsFrom partEnd
+  part-is = refl
+
   -- the rows of the part
   abbrev pub count : ℕ
   count = partEnd tasks v - partStart tasks v
@@ -83,21 +87,20 @@ module _ (tasks : List ℕ) (v : ℕ) where
   words = 20 * partEnd tasks v - 20 * partStart tasks v
 
   pub part-length : length (partOf tasks v) ≡ 20 * count
-  unfolding partOf rowsFrom partEnd
   part-length =
       let rest : List ℕ = drop (20 * partStart tasks v) tasks in
       let fits : words ≤ length rest = omega (arith, end-le, length-drop (20 * partStart tasks v) tasks) in
       let same : words ≡ 20 * count = omega arith in
-      length-take-le words rest fits ∙ same
+      ap length part-is ∙ length-take-le words rest fits ∙ same
 
   -- word k of row i of the part is that word of its row in the list
   pub part-word : (i k : ℕ) → i < count → k < 20 → taskWord (partOf tasks v) i k ≡ taskWord tasks (partStart tasks v + i) k
-  unfolding partOf rowsFrom partEnd
   part-word i k l h =
       let a : ℕ = 20 * partStart tasks v in
       let inside : 20 * i + k < words = omega arith in
       let same : a + (20 * i + k) ≡ 20 * (partStart tasks v + i) + k = omega arith in
-      getD-take words (drop a tasks) (20 * i + k) 0 inside
+      ap (λ (part : List ℕ). taskWord part i k) part-is
+      ∙ getD-take words (drop a tasks) (20 * i + k) 0 inside
       ∙ getD-drop a tasks (20 * i + k) 0
       ∙ ap (λ (m : ℕ). getD tasks m 0) same
 

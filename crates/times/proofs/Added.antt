@@ -2,20 +2,17 @@
 -- words after its old ones.
 use Prim.Native.Nat.{ℕ, _+_, _-_, _*_, _<_, _≤_}
 use native.Mathlib.Omega.{arith}
-use mathlib.Core.Bool.{Bool, true, false, not, true≢false}
 use mathlib.Core.List.{List, _++_}
-use mathlib.Core.Path.{_≡_, refl, sym, ap, _∙_}
+use mathlib.Core.Path.{_≡_, refl, ap, _∙_}
 use lib.Count.{ones}
 use lib.ListN.{length, take, drop, length-append, length-drop, List·getD-append}
 use lib.Seq.{take-all, take-append-le, drop-append-le, take-append-add}
 use borrow.Author.Tests.{eq-eqb}
-use Rattle.lists.specs.Range.{lowestFrom}
 use Rattle.lists.proofs.Split.{below-or-not}
-use Rattle.lists.proofs.Sought.{sought-start}
-use Rattle.lists.proofs.Found.{found, missed, sought-same, sought-beyond}
+use Rattle.lists.proofs.Found.{sought-same, sought-beyond}
 use Rattle.rows.specs.Words.{vcpuOf, colourSet, taskRows}
-use Rattle.rows.specs.Part.{isRowOf, partStart, partEnd, partOf}
-use Rattle.rows.proofs.Parts.{start-le, part-length, part-word}
+use Rattle.rows.specs.Part.{partStart, partEnd, partOf}
+use Rattle.rows.proofs.Parts.{own, other, start-low, start-le, part-is, part-length, part-word}
 use Rattle.times.specs.Times.{taskTime}
 use Rattle.times.proofs.Planner.{later-tasks-change-nothing}
 
@@ -29,47 +26,24 @@ module _ (tasks more : List ℕ) (whole : length tasks ≡ 20 * taskRows tasks) 
   abbrev all : List ℕ
   all = tasks ++ more
 
-  abbrev own : ℕ → Bool
-  own = isRowOf tasks v
-
-  abbrev other : ℕ → Bool
-  other k = not (isRowOf tasks v k)
-
   rows-le : n ≤ taskRows all
   rows-le = omega (arith, length-append tasks more)
 
   vcpu-stays : (k : ℕ) → k < n → vcpuOf all k ≡ vcpuOf tasks k
   vcpu-stays k l = List·getD-append tasks more 0 (20 * k + 0) (omega arith)
 
-  own-stays : (k : ℕ) → k < n → isRowOf all v k ≡ own k
+  own-stays : (k : ℕ) → k < n → own all v k ≡ own tasks v k
   own-stays k l = rw (vcpu-stays k l)
 
-  own-here : own j ≡ true
-  own-here = eq-eqb v v refl
+  other-stays : (k : ℕ) → k < n → other all v k ≡ other tasks v k
+  other-stays k l = rw (own-stays k l)
 
-  start-found : lowestFrom own 0 n < n
-  start-found =
-      below-or-not (lowestFrom own 0 n) n (λ l. l)
-      (λ l. absurd (true≢false (sym own-here ∙ missed own 0 n l j (omega arith) row)))
-
-  start-is : partStart tasks v ≡ lowestFrom own 0 n
-  unfolding partStart
-  start-is = sought-start own n
+  low : partStart tasks v ≤ j
+  low = start-low tasks v j (eq-eqb v v refl)
 
   start-stays : partStart all v ≡ partStart tasks v
   unfolding partStart
-  start-stays =
-      sought-start (isRowOf all v) (taskRows all)
-      ∙ sought-same own (isRowOf all v) 0 n (taskRows all) rows-le own-stays start-found
-      ∙ sym (sought-start own n)
-
-  start-low : partStart tasks v ≤ j
-  start-low =
-      rw start-is
-      (below-or-not j (lowestFrom own 0 n) (λ l. absurd (true≢false (sym own-here ∙ found own 0 n start-found .before j (omega arith) l))) (λ l. l))
-
-  other-stays : (k : ℕ) → k < n → not (isRowOf all v k) ≡ other k
-  other-stays k l = rw (own-stays k l)
+  start-stays = sought-same (own tasks v) (own all v) 0 n (taskRows all) rows-le own-stays (omega (arith, low))
 
   abbrev rest : List ℕ
   rest = drop (20 * partStart tasks v) tasks
@@ -83,27 +57,25 @@ module _ (tasks more : List ℕ) (whole : length tasks ≡ 20 * taskRows tasks) 
 
   end-stays : partEnd tasks v < n → partEnd all v ≡ partEnd tasks v
   unfolding partEnd
-  end-stays h = rw start-stays (sought-same other (λ (k : ℕ). not (isRowOf all v k)) (partStart tasks v) n (taskRows all) rows-le other-stays h)
+  end-stays h = rw start-stays (sought-same (other tasks v) (other all v) (partStart tasks v) n (taskRows all) rows-le other-stays h)
 
   end-beyond : n ≤ partEnd tasks v → n ≤ partEnd all v
   unfolding partEnd
-  end-beyond h = rw start-stays (sought-beyond other (λ (k : ℕ). not (isRowOf all v k)) (partStart tasks v) n (taskRows all) rows-le other-stays h)
+  end-beyond h = rw start-stays (sought-beyond (other tasks v) (other all v) (partStart tasks v) n (taskRows all) rows-le other-stays h)
 
   -- a row of another VCPU ends the part
   part-stays : partEnd tasks v < n → partOf all v ≡ partOf tasks v
-  unfolding partOf
   part-stays h =
-      rw (end-stays h, start-stays, rest-stays)
+      rw (part-is all v, part-is tasks v, end-stays h, start-stays, rest-stays)
       (take-append-le (20 * partEnd tasks v - 20 * partStart tasks v) rest more (omega (arith, rest-long)))
 
   -- the part goes up to the end
   part-grows : n ≤ partEnd tasks v → partOf all v ≡ partOf tasks v ++ take (20 * partEnd all v - 20 * n) more
-  unfolding partOf
   part-grows h =
       let s : ℕ = partStart tasks v in
       let old : take (20 * partEnd tasks v - 20 * s) rest ≡ rest = take-all (20 * partEnd tasks v - 20 * s) rest (omega (arith, rest-long)) in
       let count : 20 * partEnd all v - 20 * s ≡ length rest + (20 * partEnd all v - 20 * n) = omega (arith, rest-long, start-le tasks v, end-beyond h) in
-      rw (old, start-stays, rest-stays, count) (take-append-add rest more (20 * partEnd all v - 20 * n))
+      rw (part-is all v, part-is tasks v, old, start-stays, rest-stays, count) (take-append-add rest more (20 * partEnd all v - 20 * n))
 
   pub added-rows-change-nothing : (reload : ℕ) (vcpus : List ℕ) → ((k : ℕ) → k < n → ones (colourSet tasks k) ≤ 16)
       → taskTime reload vcpus all j ≡ taskTime reload vcpus tasks j
@@ -115,5 +87,5 @@ module _ (tasks more : List ℕ) (whole : length tasks ≡ 20 * taskRows tasks) 
       (λ l.
       let long = part-length tasks v in
       rw (vcpu-stays j row, start-stays, part-grows l)
-      (later-tasks-change-nothing (partOf tasks v) (take (20 * partEnd all v - 20 * n) more) (j - s) (omega (arith, long, start-low)) _ _ reload
-      (λ k h. rw (part-word tasks v k 3 (omega (arith, start-low)) (omega arith)) (few (s + k) (omega (arith, start-low))))))
+      (later-tasks-change-nothing (partOf tasks v) (take (20 * partEnd all v - 20 * n) more) (j - s) (omega (arith, long, low)) _ _ reload
+      (λ k h. rw (part-word tasks v k 3 (omega (arith, low)) (omega arith)) (few (s + k) (omega (arith, low))))))
