@@ -77,7 +77,7 @@ module _ (b : Board) (vcpus tasks : List ℕ) where
       let d = neither (not (ltb (domain vcpus i) (b .domains))) _ (neither (ltb 3 (core vcpus i)) _ e .1) in
       let r = neither (zeroOrAbove 1000000 (vcpuPeriod vcpus i)) _ (d .1) in
       let q = ranged (vcpuPeriod vcpus i) (budget vcpus i) (r .1) in
-      let row : VcpuRow vcpus i = record { whole = omega arith; period-high = ranged 1000000 (vcpuPeriod vcpus i) (r .0) .1; budget-low = q .0; budget-high = q .1 } in
+      let row : VcpuRow vcpus i = record { period-high = ranged 1000000 (vcpuPeriod vcpus i) (r .0) .1; budget-low = q .0; budget-high = q .1 } in
       (row, ltb-true _ _ (not-false _ (d .0)))
 
   -- a row whose VCPU is given, and whose set lies in a grant of a board that passes 2 to 7
@@ -106,7 +106,6 @@ module _ (b : Board) (vcpus tasks : List ℕ) where
         let high : ones s ≤ 16 = omega (arith, ones-le (b .colours) s (lt-of-le-of-lt inside below), few) in
         let c = ranged 1000000 (costWith tasks j (ones s)) (neither (zeroOrAbove 1000000 (costWith tasks j (ones s))) _ (any-from (badCost tasks j) 16 1 (ones s) (r .1) low (omega arith)) .0) in
         record {
-          whole = omega arith;
           period-low = period .0;
           period-high = period .1;
           due-low = due .0;
@@ -140,13 +139,14 @@ module _ (b : Board) (reload : ℕ) (vcpus tasks : List ℕ) (room : ℕ) (answe
   unfolding boardReply
   valid e =
       let board = split b (b .frames) (answers-passed (boardTests b (b .frames)) tt tt e .0) in
+      let task : (j : ℕ) → j < taskRows tasks → TaskRow tasks j = λ j h.
+      (let set = colour-set (b .colours) _ (not-false _ (board .grants _ (row _ (name j h) .1))) in
+      task-row b vcpus tasks j h (passed .task-rows j h) (set .below) (count-range (b .colours) (board .count) .1)) in
       let most = vcpus-most reload vcpus (passed .vcpu-words) in
       record {
         reload-high = most .0;
-        vcpus-few = omega (arith, most .1);
-        vcpu = λ i h. row i h .0;
-        tasks-few = omega (arith, tasks-most vcpus tasks room (passed .task-words) .0);
-        task = λ j h. (let set = colour-set (b .colours) _ (not-false _ (board .grants _ (row _ (name j h) .1))) in task-row b vcpus tasks j h (passed .task-rows j h) (set .below) (count-range (b .colours) (board .count) .1));
+        vcpu-rows = record { few = omega (arith, most .1); row = λ i h. row i h .0 };
+        task-rows = record { few = omega (arith, tasks-most vcpus tasks room (passed .task-words) .0); row = task };
         names = name;
         ascending = in-order tasks (passed .order);
       }

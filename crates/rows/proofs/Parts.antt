@@ -16,7 +16,7 @@ use Rattle.lists.proofs.Sought.{sought-end}
 use Rattle.lists.proofs.Found.{found, missed, sought-past, sought-le}
 use Rattle.rows.specs.Words.{taskWord, vcpuOf, colourSet, cost, taskRows}
 use Rattle.rows.specs.Part.{isRowOf, nextOwn, nextOther, partStart, partEnd, rowsFrom, partFrom, partOf}
-use Rattle.rows.specs.Valid.{TaskRow, Ascending}
+use Rattle.rows.specs.Valid.{TaskRow, Tasks, Ascending}
 
 module _ (p : ℕ → Bool) (i n : ℕ) where
   -- a search goes no lower than it starts
@@ -116,10 +116,9 @@ module _ (tasks : List ℕ) (v : ℕ) where
   unfolding cost
   part-cost i l h = rw (part-word i 3 l (omega arith)) (part-word i (3 + ones (colourSet tasks (partStart tasks v + i))) l (omega arith))
 
-  pub part-row : (i : ℕ) → i < count → TaskRow tasks (partStart tasks v + i) → TaskRow (partOf tasks v) i
+  part-row : (i : ℕ) → i < count → TaskRow tasks (partStart tasks v + i) → TaskRow (partOf tasks v) i
   part-row i l r =
       record {
-        whole = omega (arith, part-length);
         period-low = rw (part-word i 1 l (omega arith)) (r .period-low);
         period-high = rw (part-word i 1 l (omega arith)) (r .period-high);
         due-low = rw (part-word i 2 l (omega arith)) (r .due-low);
@@ -128,6 +127,16 @@ module _ (tasks : List ℕ) (v : ℕ) where
         colours-high = rw (part-word i 3 l (omega arith)) (r .colours-high);
         cost-low = rw (part-cost i l (r .colours-high)) (r .cost-low);
         cost-high = rw (part-cost i l (r .colours-high)) (r .cost-high);
+      }
+
+  pub part-rows : taskRows (partOf tasks v) ≡ count
+  part-rows = omega (arith, part-length)
+
+  pub part-tasks : Tasks tasks → Tasks (partOf tasks v)
+  part-tasks t =
+      record {
+        few = omega (arith, part-rows, end-le, t .few);
+        row = λ i l. (let h : i < count = omega (arith, part-rows) in part-row i h (t .row _ (omega (arith, end-le))));
       }
 
 module _ (tasks : List ℕ) (ascending : Ascending tasks) where
