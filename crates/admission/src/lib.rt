@@ -6,8 +6,13 @@ mod row_times;
 mod search;
 
 ghost use mathlib.Core.Path.{_≡_};
+ghost use mathlib.Core.List.{_++_};
+ghost use Prim.Native.Nat.{_+_, _≤_};
 ghost use lib.ListN.{length};
-ghost use Rattle.admission.specs.Admission.{admissionReply, timesAfter};
+ghost use Rattle.refusal.specs.Reply.{unless};
+ghost use Rattle.rows.specs.Words.{vcpuRows, taskRows};
+ghost use Rattle.rows.specs.Valid.{Plan};
+ghost use Rattle.admission.specs.Admission.{timeTests, admissionReply, vcpuTimes, taskTimes, listAfter, timesAfter};
 ghost use Rattle.admission.specs.Paper.{paperAdmission};
 use crate::row_times::task_times;
 use crate::row_times::vcpu_times;
@@ -17,6 +22,8 @@ use board::Checked;
 use board::check_board;
 use plan::check_plan;
 use refusal::Refusal;
+use rows::TASK_WORDS;
+use rows::VCPU_WORDS;
 
 pub enum Admission {
     Admitted,
@@ -41,15 +48,24 @@ pub fn admit_plan(
     if let Checked::Refused(refusal) = check_plan(board, reload, vcpus, tasks, times.len()) {
         return Admission::Refused(refusal);
     }
-    let vcpu_rows = (vcpus.len() / 4) as u32;
-    let known = vcpu_times(reload, vcpus, tasks, vcpu_rows);
+    admit_rows(reload, vcpus, tasks, times)
+}
+
+// 21 and 22 of a plan that passes the rest.
+fn admit_rows(reload: u32, vcpus: &[u32], tasks: &[u32], times: &mut [u32]) -> Admission
+    requires { ⌜ Plan reload (now vcpus) (now tasks) × (vcpuRows (now vcpus) + taskRows (now tasks) ≤ length (now times)) ⌝ }
+    ensures { λ r. ⌜ paperAdmission r ≡ unless (timeTests reload (now (vcpus .entry)) (now (tasks .entry))) tt ⌝ }
+    ensures { λ r. ⌜ now (times .exit) ≡ listAfter (unless (timeTests reload (now (vcpus .entry)) (now (tasks .entry))) tt) (vcpuTimes (now (vcpus .entry)) ++ taskTimes reload (now (vcpus .entry)) (now (tasks .entry))) (now (times .entry)) ⌝ }
+{
+    let vcpu_rows = (vcpus.len() / VCPU_WORDS) as u32;
+    let known = vcpu_times(vcpus, vcpu_rows);
     if known.late < vcpu_rows {
         return Admission::Refused(Refusal {
             number: 21,
             row: known.late,
         });
     }
-    let task_rows = (tasks.len() / 20) as u32;
+    let task_rows = (tasks.len() / TASK_WORDS) as u32;
     let found = known.found;
     let all = task_times(reload, vcpus, tasks, vcpu_rows, found);
     if all.late < task_rows {

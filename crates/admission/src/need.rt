@@ -4,10 +4,16 @@ ghost use mathlib.Core.Path.{_≡_};
 ghost use Prim.Native.Nat.{_≤_, _<_};
 ghost use Rattle.times.specs.Need.{arrivals as arrivalsOf};
 ghost use Rattle.times.specs.Times.{charge as chargeOf, taskNeed, vcpuNeed};
-ghost use Rattle.rows.specs.Valid.{TaskRow, TaskRows, VcpuRows};
+ghost use Rattle.rows.specs.Words.{vcpuRows, taskRows};
+ghost use Rattle.rows.specs.Valid.{Tasks, Vcpus};
 use crate::read::cost_at;
 use crate::read::task_at;
 use crate::read::vcpu_at;
+use rows::TASK_PERIOD;
+use rows::TASK_SET;
+use rows::VCPU_BUDGET;
+use rows::VCPU_CORE;
+use rows::VCPU_PERIOD;
 
 // t / period, rounded up.
 fn arrivals(t: u32, period: u32) -> u64
@@ -19,21 +25,21 @@ fn arrivals(t: u32, period: u32) -> u64
 
 // What an arrival of task j charges task i: its cost, and the reload of each colour that both hold.
 fn charge(reload: u32, part: &[u32], i: u32, j: u32) -> u64
-    requires { ⌜ (reload ≤ 10000) × TaskRow (now part) i × TaskRow (now part) j ⌝ }
+    requires { ⌜ (reload ≤ 10000) × Tasks (now part) × (i < taskRows (now part)) × (j < taskRows (now part)) ⌝ }
     ensures { λ r. ⌜ r ≡ chargeOf reload (now (part .entry)) i j ⌝ }
 {
-    let shared = u32::count_ones(task_at(part, j, 3) & task_at(part, i, 3));
+    let shared = u32::count_ones(task_at(part, j, TASK_SET) & task_at(part, i, TASK_SET));
     (cost_at(part, j) + reload * shared) as u64
 }
 
 pub(crate) fn task_need(reload: u32, part: &[u32], i: u32, t: u32) -> u64
-    requires { ⌜ (reload ≤ 10000) × (t ≤ 1000000) × TaskRows (now part) i ⌝ }
+    requires { ⌜ (reload ≤ 10000) × (t ≤ 1000000) × Tasks (now part) × (i < taskRows (now part)) ⌝ }
     ensures { λ r. ⌜ r ≡ taskNeed reload (now (part .entry)) i t ⌝ }
 {
     let mut sum = cost_at(part, i) as u64;
     let mut j = 0;
     while j < i {
-        sum += arrivals(t, task_at(part, j, 1)) * charge(reload, part, i, j);
+        sum += arrivals(t, task_at(part, j, TASK_PERIOD)) * charge(reload, part, i, j);
         j += 1;
     }
     sum
@@ -41,15 +47,15 @@ pub(crate) fn task_need(reload: u32, part: &[u32], i: u32, t: u32) -> u64
 
 // An earlier VCPU charges its budget, where it is of the same core.
 pub(crate) fn vcpu_need(vcpus: &[u32], i: u32, t: u32) -> u64
-    requires { ⌜ (t ≤ 1000000) × VcpuRows (now vcpus) i ⌝ }
+    requires { ⌜ (t ≤ 1000000) × Vcpus (now vcpus) × (i < vcpuRows (now vcpus)) ⌝ }
     ensures { λ r. ⌜ r ≡ vcpuNeed (now (vcpus .entry)) i t ⌝ }
 {
-    let core = vcpu_at(vcpus, i, 0);
-    let mut sum = vcpu_at(vcpus, i, 3) as u64;
+    let core = vcpu_at(vcpus, i, VCPU_CORE);
+    let mut sum = vcpu_at(vcpus, i, VCPU_BUDGET) as u64;
     let mut j = 0;
     while j < i {
-        if vcpu_at(vcpus, j, 0) == core {
-            sum += arrivals(t, vcpu_at(vcpus, j, 2)) * (vcpu_at(vcpus, j, 3) as u64);
+        if vcpu_at(vcpus, j, VCPU_CORE) == core {
+            sum += arrivals(t, vcpu_at(vcpus, j, VCPU_PERIOD)) * (vcpu_at(vcpus, j, VCPU_BUDGET) as u64);
         }
         j += 1;
     }

@@ -1,19 +1,22 @@
 // The times of all rows, VCPUs first, up to the first row that is late: document 01, refusals 21 and 22.
 // They are kept apart from the lent list until no row is late.
 ghost use mathlib.Core.Path.{_≡_};
-ghost use mathlib.Core.List.{map, _++_};
-ghost use Prim.Native.Nat.{_+_, _≤_, _<_};
+ghost use mathlib.Core.List.{[], _++_};
+ghost use Prim.Native.Nat.{_≤_, _<_};
 ghost use lib.ListN.{length, take, drop};
-ghost use Rattle.lists.specs.Range.{lowest, upto};
 ghost use Rattle.rows.specs.Words.{vcpuRows, taskRows, vcpuOf};
 ghost use Rattle.rows.specs.Part.{partStart};
+ghost use Rattle.rows.specs.Valid.{Vcpus, Plan};
 ghost use Rattle.times.specs.Times.{vcpuTime, taskTime as taskTimeOf};
-ghost use Rattle.rows.specs.Valid.{Plan};
-ghost use Rattle.admission.specs.Admission.{isLate, microseconds};
 ghost use Rattle.admission.specs.Paper.{paperFound};
+ghost use Rattle.admission.specs.Timed.{Timed};
 use crate::search::Found;
 use crate::search::time_in_part;
 use crate::search::vcpu_time;
+use rows::TASK_VCPU;
+use rows::TASK_WORDS;
+use rows::VCPU_BUDGET;
+use rows::VCPU_PERIOD;
 use rows::next_own;
 use rows::part_from;
 use rows::task_word;
@@ -25,9 +28,9 @@ pub(crate) struct Times {
     pub found: [u32; 48],
 }
 
-pub(crate) fn vcpu_times(reload: u32, vcpus: &[u32], tasks: &[u32], rows: u32) -> Times
-    requires { ⌜ Plan reload (now vcpus) (now tasks) × (rows ≡ vcpuRows (now vcpus)) ⌝ }
-    ensures { λ r. ⌜ (r .late ≡ lowest (λ i. isLate (vcpuTime (now (vcpus .entry)) i)) rows) × (take (r .late) (r .found) ≡ map (λ i. microseconds (vcpuTime (now (vcpus .entry)) i)) (upto (r .late))) × (48 ≡ length (r .found)) ⌝ }
+pub(crate) fn vcpu_times(vcpus: &[u32], rows: u32) -> Times
+    requires { ⌜ Vcpus (now vcpus) × (rows ≡ vcpuRows (now vcpus)) ⌝ }
+    ensures { λ r. ⌜ Timed (vcpuTime (now (vcpus .entry))) rows 0 [] (r .late) (r .found) ⌝ }
 {
     let mut found = [0u32; 48];
     let mut i: u32 = 0;
@@ -47,11 +50,11 @@ fn task_time(reload: u32, vcpus: &[u32], tasks: &[u32], start: usize, j: u32) ->
     requires { ⌜ Plan reload (now vcpus) (now tasks) × (j < taskRows (now tasks)) × (start ≡ partStart (now tasks) (vcpuOf (now tasks) j)) ⌝ }
     ensures { λ r. ⌜ paperFound r ≡ taskTimeOf reload (now (vcpus .entry)) (now (tasks .entry)) j ⌝ }
 {
-    let v = task_word(tasks, j, 0);
+    let v = task_word(tasks, j, TASK_VCPU);
     let own = part_from(tasks, start, v);
     time_in_part(
-        vcpu_word(vcpus, v, 2),
-        vcpu_word(vcpus, v, 3),
+        vcpu_word(vcpus, v, VCPU_PERIOD),
+        vcpu_word(vcpus, v, VCPU_BUDGET),
         reload,
         own,
         j - start as u32,
@@ -68,14 +71,14 @@ pub(crate) fn task_times(
     known: [u32; 48],
 ) -> Times
     requires { ⌜ Plan reload (now vcpus) (now tasks) × (first ≤ 16) × (48 ≡ length known) ⌝ }
-    ensures { λ r. ⌜ (r .late ≡ lowest (λ j. isLate (taskTimeOf reload (now (vcpus .entry)) (now (tasks .entry)) j)) (taskRows (now (tasks .entry)))) × (take (first + r .late) (r .found) ≡ take first known ++ map (λ j. microseconds (taskTimeOf reload (now (vcpus .entry)) (now (tasks .entry)) j)) (upto (r .late))) × (48 ≡ length (r .found)) ⌝ }
+    ensures { λ r. ⌜ Timed (taskTimeOf reload (now (vcpus .entry)) (now (tasks .entry))) (taskRows (now (tasks .entry))) first known (r .late) (r .found) ⌝ }
 {
-    let rows = (tasks.len() / 20) as u32;
+    let rows = (tasks.len() / TASK_WORDS) as u32;
     let mut found = known;
     let mut start = 0;
     let mut j: u32 = 0;
     while j < rows {
-        start = next_own(tasks, start, task_word(tasks, j, 0));
+        start = next_own(tasks, start, task_word(tasks, j, TASK_VCPU));
         let Found::At(time) = task_time(reload, vcpus, tasks, start, j) else {
             return Times { late: j, found };
         };

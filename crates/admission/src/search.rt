@@ -4,12 +4,15 @@ ghost use mathlib.Core.Path.{_≡_};
 ghost use Prim.Native.Nat.{_≤_, _<_};
 ghost use Rattle.supply.specs.Supply.{firstSupply, Budget};
 ghost use Rattle.times.specs.Times.{timeInPart, vcpuTime as vcpuTimeOf};
-ghost use Rattle.rows.specs.Valid.{TaskRows, VcpuRows};
+ghost use Rattle.rows.specs.Words.{vcpuRows, taskRows};
+ghost use Rattle.rows.specs.Valid.{Tasks, Vcpus};
 ghost use Rattle.admission.specs.Paper.{paperFound};
 use crate::need::task_need;
 use crate::need::vcpu_need;
 use crate::read::task_at;
 use crate::read::vcpu_at;
+use rows::TASK_DEADLINE;
+use rows::VCPU_PERIOD;
 
 pub enum Found {
     At(u32),
@@ -30,10 +33,10 @@ fn first_supply(period: u32, budget: u32, x: u32) -> u64
 // The time of row i of a part under its VCPU's period and budget. A need above the deadline is late
 // before it is inverted, since no supply exceeds its time.
 pub(crate) fn time_in_part(period: u32, budget: u32, reload: u32, part: &[u32], i: u32) -> Found
-    requires { ⌜ Budget period budget × (period ≤ 1000000) × (reload ≤ 10000) × TaskRows (now part) i ⌝ }
+    requires { ⌜ Budget period budget × (period ≤ 1000000) × (reload ≤ 10000) × Tasks (now part) × (i < taskRows (now part)) ⌝ }
     ensures { λ r. ⌜ paperFound r ≡ timeInPart period budget reload (now (part .entry)) i ⌝ }
 {
-    let due = task_at(part, i, 2) as u64;
+    let due = task_at(part, i, TASK_DEADLINE) as u64;
     let mut t: u64 = 1;
     while t <= due {
         let need = task_need(reload, part, i, t as u32);
@@ -51,10 +54,10 @@ pub(crate) fn time_in_part(period: u32, budget: u32, reload: u32, part: &[u32], 
 
 // The time of a VCPU: its supply in t is t.
 pub(crate) fn vcpu_time(vcpus: &[u32], i: u32) -> Found
-    requires { ⌜ VcpuRows (now vcpus) i ⌝ }
+    requires { ⌜ Vcpus (now vcpus) × (i < vcpuRows (now vcpus)) ⌝ }
     ensures { λ r. ⌜ paperFound r ≡ vcpuTimeOf (now (vcpus .entry)) i ⌝ }
 {
-    let due = vcpu_at(vcpus, i, 2) as u64;
+    let due = vcpu_at(vcpus, i, VCPU_PERIOD) as u64;
     let mut t: u64 = 1;
     while t <= due {
         let need = vcpu_need(vcpus, i, t as u32);

@@ -25,7 +25,7 @@ pub time-is-first : (p q reload : ℕ) (part : List ℕ) (i t : ℕ) → timeInP
 unfolding timeInPart
 time-is-first p q reload part i t e =
     let r = told-first (λ (s : ℕ). leb (taskNeed reload part i s) (supply p q s)) (deadline part i) t e in
-    (r .low, r .high, leb-true _ _ (r .passes), λ s a b. leb-false _ _ (r .before s a b))
+    (r .low, omega (arith, r .high), leb-true _ _ (r .passes), λ s a b. leb-false _ _ (r .before s a b))
 
 -- late: in no microsecond from 1 to the deadline
 pub late-is-late : (p q reload : ℕ) (part : List ℕ) (i : ℕ) → timeInPart p q reload part i ≡ Late
@@ -39,7 +39,7 @@ pub vcpu-time-is-first : (vcpus : List ℕ) (i t : ℕ) → vcpuTime vcpus i ≡
 unfolding vcpuTime
 vcpu-time-is-first vcpus i t e =
     let r = told-first (λ (s : ℕ). leb (vcpuNeed vcpus i s) s) (vcpuPeriod vcpus i) t e in
-    (r .low, r .high, leb-true _ _ (r .passes), λ s a b. leb-false _ _ (r .before s a b))
+    (r .low, omega (arith, r .high), leb-true _ _ (r .passes), λ s a b. leb-false _ _ (r .before s a b))
 
 pub vcpu-late-is-late : (vcpus : List ℕ) (i : ℕ) → vcpuTime vcpus i ≡ Late
     → (s : ℕ) → 1 ≤ s → s ≤ vcpuPeriod vcpus i → s < vcpuNeed vcpus i s
@@ -55,10 +55,10 @@ no-later ok ok′ bound f = go (firstTime ok bound) (firstTime ok′ bound) refl
     go (At t) (At s) e k =
         let r = told-first ok bound t e in
         let q = told-first ok′ bound s k in
-        below-or-not t s (λ l. absurd (true≢false (sym (f t (r .high) (r .passes)) ∙ q .before t (r .low) l))) (λ l. l)
+        below-or-not t s (λ l. absurd (true≢false (sym (f t (omega (arith, r .high)) (r .passes)) ∙ q .before t (r .low) l))) (λ l. l)
     go (At t) Late e k =
         let r = told-first ok bound t e in
-        true≢false (sym (f t (r .high) (r .passes)) ∙ told-none ok′ bound k t (r .low) (r .high))
+        true≢false (sym (f t (omega (arith, r .high)) (r .passes)) ∙ told-none ok′ bound k t (r .low) (omega (arith, r .high)))
 
 -- less to do at the same periods
 need-less : (own own′ : ℕ) (period period′ charge charge′ : ℕ → ℕ) (n t : ℕ) → own′ ≤ own

@@ -13,10 +13,10 @@ use Rattle.admission.proofs.need.charge.Statement.{statement}
 use Rattle.admission.proofs.need.charge.Tie as tie
 
 task-at-requires : tie.Need-task-at-requires
-task-at-requires c κs = search needs
+task-at-requires c κs = omega arith
 
 task-at-requires-2 : tie.Need-task-at-requires-2
-task-at-requires-2 c κs = search needs
+task-at-requires-2 c κs = omega arith
 
 cost-at-requires : tie.Need-cost-at-requires
 cost-at-requires c κs = search needs
@@ -28,17 +28,20 @@ shared-is c = rw (c .before .task-at .ensures, c .task-at2 .ensures)
 reload-le : (c : tie.After-task-at2) → c .before .before .before .args .reload * ones (bitAnd (c .before .task-at .result) (c .task-at2 .result)) ≤ 160000
 reload-le c =
     let s = c .before .before .before in
-    let few : ones (bitAnd (c .before .task-at .result) (c .task-at2 .result)) ≤ 16 = rw (shared-is c) (shared-le (s .args .part .now) (s .args .i) (s .args .j) (s .pre .2)) in
+    let few : ones (bitAnd (c .before .task-at .result) (c .task-at2 .result)) ≤ 16 = rw (shared-is c) (shared-le (s .args .part .now) (s .args .i) (s .args .j) (s .pre .1 .row _ (s .pre .3))) in
     mul-le-mul (s .pre .0) few
+
+cost-le : (c : tie.After-cost-at) → c .cost-at .result ≤ 1000000
+cost-le c = let s = c .before .before .before .before in rw (c .cost-at .ensures) (s .pre .1 .row _ (s .pre .3) .cost-high)
 
 mul-result : tie.Need-mul-result
 mul-result c = omega (arith, reload-le (c .before))
 
 add-result : tie.Need-add-result
-add-result c = omega (arith, reload-le (c .before), c .cost-at .ensures, c .before .before .before .before .pre .2 .cost-high)
+add-result c = omega (arith, reload-le (c .before), cost-le c)
 
 cast-result : tie.Need-cast-result
-cast-result c = omega (arith, reload-le (c .before), c .cost-at .ensures, c .before .before .before .before .pre .2 .cost-high)
+cast-result c = omega (arith, reload-le (c .before), cost-le c)
 
 returns : tie.Need-returns
 unfolding charge

@@ -1,16 +1,16 @@
 -- `admission::need::vcpu_need` meets its contract. The invariant: the sum is the need over the rows passed, which has a bound. A row of
 -- another core adds its arrivals times 0.
 use Prim.Native.Nat.{ℕ, _+_, _-_, _*_, _≤_}
-use native.Mathlib.Nat.{le-refl, le-trans, mul-le-mul}
+use native.Mathlib.Nat.{le-trans, mul-le-mul}
 use native.Mathlib.Omega.{arith}
 use mathlib.Core.List.{List}
 use mathlib.Core.Logic.{⊎-elim}
 use mathlib.Core.Path.{_≡_, sym, ap, ap₂, _∙_}
 use borrow.Author.Tests.{eq-eqb, ne-eqb}
 use Rattle.rows.specs.Words.{core, vcpuPeriod, budget}
+use Rattle.rows.specs.Valid.{VcpuRow}
 use Rattle.times.specs.Need.{need}
 use Rattle.times.specs.Times.{vcpuCharge, vcpuNeed}
-use Rattle.rows.specs.Valid.{VcpuRow}
 use Rattle.times.proofs.Needs.{arrivals-le, need-next}
 use Rattle.times.proofs.Bounds.{vcpu-need-le}
 use Rattle.admission.proofs.need.vcpu_need.Statement.{statement}
@@ -22,15 +22,22 @@ Inv-loop vcpus i t core sum₀ j₀ sum j = (j ≤ i) × (sum ≡ need (budget v
 abbrev μ-loop : tie.MeasureT-loop
 μ-loop vcpus i t core sum₀ j₀ sum j = i - j
 
--- the row whose need is worked out
-own-row : (c : tie.Start Inv-loop μ-loop) → VcpuRow (c .args .vcpus .now) (c .args .i)
-own-row c = c .pre .1 .row (c .args .i) (le-refl (c .args .i))
+-- the places: the entry and the turn of the loop, and the turn after the last call of its branch
+abbrev entry : tie.In-loop Inv-loop μ-loop → tie.Start Inv-loop μ-loop
+entry c = c .before .before .before .before .before
+
+abbrev turn : tie.After-vcpu-at5 Inv-loop μ-loop → tie.In-loop Inv-loop μ-loop
+turn c = c .before .before .before .before .before
+
+-- the row that the loop has come to
+row : (c : tie.In-loop Inv-loop μ-loop) → VcpuRow (entry c .args .vcpus .now) (c .before .loop .j)
+row c = entry c .pre .1 .row (c .before .loop .j) (omega arith)
 
 vcpu-at-requires : tie.Need-vcpu-at-requires Inv-loop μ-loop
-vcpu-at-requires c κs = omega (arith, own-row (c .before) .whole)
+vcpu-at-requires c κs = omega arith
 
 vcpu-at-requires-2 : tie.Need-vcpu-at-requires-2 Inv-loop μ-loop
-vcpu-at-requires-2 c κs = omega (arith, own-row (c .before .before) .whole)
+vcpu-at-requires-2 c κs = omega arith
 
 cast-sum : tie.Need-cast-sum Inv-loop μ-loop
 cast-sum c = omega (arith, c .vcpu-at2 .ok)
@@ -39,49 +46,45 @@ loop-holds : tie.Need-loop-holds Inv-loop μ-loop
 unfolding need
 loop-holds c = (omega arith, c .vcpu-at2 .ensures)
 
--- the row that the loop has come to
-row : (c : tie.In-loop Inv-loop μ-loop) → VcpuRow (c .before .before .before .before .before .args .vcpus .now) (c .before .loop .j)
-row c = c .before .before .before .before .before .pre .1 .row (c .before .loop .j) (omega arith)
-
 vcpu-at-requires-3 : tie.Need-vcpu-at-requires-3 Inv-loop μ-loop
-vcpu-at-requires-3 c κs = omega (arith, row c .whole)
+vcpu-at-requires-3 c κs = omega arith
 
 vcpu-at-requires-4 : tie.Need-vcpu-at-requires-4 Inv-loop μ-loop
-vcpu-at-requires-4 c κs = omega (arith, row (c .before .before) .whole)
+vcpu-at-requires-4 c κs = omega arith
 
 arrivals-requires : tie.Need-arrivals-requires Inv-loop μ-loop
 arrivals-requires c κs =
     let r = row (c .before .before .before) in
-    (c .before .before .before .before .before .before .before .before .pre .0, rw (c .vcpu-at4 .ensures) (le-trans (r .budget-low) (r .budget-high)), rw (c .vcpu-at4 .ensures) (r .period-high))
+    (entry (c .before .before .before) .pre .0, rw (c .vcpu-at4 .ensures) (le-trans (r .budget-low) (r .budget-high)), rw (c .vcpu-at4 .ensures) (r .period-high))
 
 vcpu-at-requires-5 : tie.Need-vcpu-at-requires-5 Inv-loop μ-loop
-vcpu-at-requires-5 c κs = omega (arith, row (c .before .before .before .before) .whole)
+vcpu-at-requires-5 c κs = omega arith
 
 cast-sum-2 : tie.Need-cast-sum-2 Inv-loop μ-loop
 cast-sum-2 c = omega (arith, c .vcpu-at5 .ok)
 
 product-le : (c : tie.After-vcpu-at5 Inv-loop μ-loop) → c .before .arrivals .result * c .vcpu-at5 .result ≤ 1000000000000
 product-le c =
-    let s = c .before .before .before .before .before .before .before .before .before .before in
-    let r = row (c .before .before .before .before .before) in
+    let s = entry (turn c) in
+    let r = row (turn c) in
     let many : c .before .arrivals .result ≤ 1000000 = rw (c .before .arrivals .ensures) (le-trans (arrivals-le _ (s .args .t)) (s .pre .0)) in
     let dear : c .vcpu-at5 .result ≤ 1000000 = rw (c .vcpu-at5 .ensures) (le-trans (r .budget-high) (r .period-high)) in
     mul-le-mul many dear
 
 sum-le : (c : tie.In-loop Inv-loop μ-loop) → c .before .loop .sum ≤ 1000000 + c .before .loop .j * 1000000000000
 sum-le c =
-    let s = c .before .before .before .before .before in
+    let s = entry c in
     let h = c .before .loop in
-    rw (h .inv .1) (vcpu-need-le (s .args .vcpus .now) (s .args .i) (h .j) (s .args .t) (s .pre .1) (h .inv .0) (s .pre .0))
+    rw (h .inv .1) (vcpu-need-le (s .args .vcpus .now) (s .args .i) (h .j) (s .args .t) (s .pre .1) (s .pre .2) (h .inv .0) (s .pre .0))
 
 mul-sum : tie.Need-mul-sum Inv-loop μ-loop
 mul-sum c = omega (arith, product-le c)
 
 add-sum : tie.Need-add-sum Inv-loop μ-loop
-add-sum c = omega (arith, product-le c, sum-le (c .before .before .before .before .before), c .before .before .before .before .before .before .before .before .before .before .pre .1 .few)
+add-sum c = omega (arith, product-le c, sum-le (turn c), entry (turn c) .pre .1 .few)
 
 add-j : tie.Need-add-j Inv-loop μ-loop
-add-j c = omega (arith, c .before .before .before .before .before .before .before .pre .1 .few)
+add-j c = omega arith
 
 loop-less : tie.Need-loop-less Inv-loop μ-loop
 loop-less c = omega arith
@@ -97,11 +100,12 @@ other-core vcpus i j e = simp (ne-eqb (core vcpus j) (core vcpus i) e)
 
 loop-again : tie.Need-loop-again Inv-loop μ-loop
 loop-again c =
-    let a = c .before .before .before .before .before .before .before .args in
+    let d = c .before .before in
+    let a = entry d .args in
     let v : List ℕ = a .vcpus .now in
-    let h = c .before .before .before .loop in
+    let h = d .before .loop in
     let here = c .before .vcpu-at3 .ensures in
-    let own = c .before .before .before .before .before .vcpu-at .ensures in
+    let own = d .before .before .before .vcpu-at .ensures in
     let next = need-next (budget v (a .i)) (vcpuPeriod v) (vcpuCharge v (a .i)) (h .j) (a .t) in (
       omega arith,
       ⊎-elim

@@ -8,16 +8,16 @@ use Rattle.admission.proofs.read.cost_at.Statement.{statement}
 use Rattle.admission.proofs.read.cost_at.Tie as tie
 
 task-at-requires : tie.Need-task-at-requires
-task-at-requires c κs = search needs
+task-at-requires c κs = omega arith
 
 few : (c : tie.After-task-at) → ones (c .task-at .result) ≤ 16
-few c = rw (c .task-at .ensures) (c .before .before .pre .colours-high)
+few c = rw (c .task-at .ensures) (c .before .before .pre .0 .row _ (c .before .before .pre .1) .colours-high)
 
 add-task-at : tie.Need-add-task-at
 add-task-at c = omega (arith, few c)
 
 task-at-requires-2 : tie.Need-task-at-requires-2
-task-at-requires-2 c κs = omega (arith, few c, c .before .before .pre .whole)
+task-at-requires-2 c κs = omega (arith, few c)
 
 returns : tie.Need-returns
 unfolding cost
