@@ -34,13 +34,12 @@ module _ (time : ℕ → Time) (n first : ℕ) (known : List ℕ) where
         room = r;
       }
 
-  pub timing-next : {i : ℕ} {found : List ℕ} (x : ℕ) → Timing i found → i < n → first + i < 48 → time i ≡ At x → Timing (i + 1) (set found (first + i) x)
-  timing-next {i} {found} x t l h e =
-      let k : ℕ = first + i in
+  pub timing-next : {i : ℕ} {found : List ℕ} (k x : ℕ) → k ≡ first + i → k < 48 → Timing i found → i < n → time i ≡ At x → Timing (i + 1) (set found k x)
+  timing-next {i} {found} k x at h t l e =
       let next : first + (i + 1) ≡ k + 1 = omega arith in
       record {
         ahead = seek-miss late (t .ahead) l (ap isLate e);
-        times = rw next (take-next found k x (omega (arith, t .room)) ∙ rw (t .times, ← (ap microseconds e)) (append-assoc (take first known) (map micros (upto i)) (micros i ∷ [])) ∙ ap (λ (r : List ℕ). take first known ++ r) (sym (map-next micros i)));
+        times = rw next (take-next found k x (omega (arith, t .room)) ∙ rw (at, t .times, ← (ap microseconds e)) (append-assoc (take first known) (map micros (upto i)) (micros i ∷ [])) ∙ ap (λ (r : List ℕ). take first known ++ r) (sym (map-next micros i)));
         room = t .room ∙ sym (length-set found k x);
       }
 

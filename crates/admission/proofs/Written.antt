@@ -1,5 +1,6 @@
 -- The lent list after admission: the times of all rows in its front where the plan is admitted, and the list as it was where it is refused.
 use Prim.Native.Nat.{ℕ, _+_, _≤_}
+use native.Mathlib.Nat.{zero-add}
 use native.Mathlib.Omega.{arith}
 use mathlib.Core.List.{List, [], _++_}
 use mathlib.Core.Path.{_≡_, sym, _∙_}
@@ -40,4 +41,4 @@ module _ (reload : ℕ) (vcpus tasks : List ℕ) where
       → Timed (taskTime reload vcpus tasks) (taskRows tasks) (vcpuRows vcpus) known j found → taskRows tasks ≤ j
       → take (vcpuRows vcpus + taskRows tasks) found ≡ vcpuTimes vcpus ++ taskTimes reload vcpus tasks
   unfolding vcpuTimes taskTimes
-  all-times v l t m = rw (whole t m, rw (whole v l) at (v .times)) at (t .times)
+  all-times v l t m = rw (whole t m, rw (whole v l, zero-add (vcpuRows vcpus)) at (v .times)) at (t .times)

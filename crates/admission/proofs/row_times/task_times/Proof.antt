@@ -1,50 +1,41 @@
--- `admission::row_times::task_times` meets its contract. The invariant: no row passed is late, and their times stand after those known; no row before `start` is of a VCPU that is still to come.
-use Prim.Native.Nat.{ℕ, _+_, _-_, _<_, _≤_}
-use native.Mathlib.Nat.{add-zero, le-refl, not-suc-le-zero}
+-- `admission::row_times::task_times` meets its contract. The invariant: no row passed is late, and their times stand after those known
+-- (`Timing`); no row before `start` is of a VCPU that is still to come.
+use Prim.Native.Nat.{ℕ, _-_, _<_, _≤_}
+use native.Mathlib.Nat.{le-refl, not-suc-le-zero}
 use native.Mathlib.Omega.{arith}
-use mathlib.Core.Bool.{Bool, true, false}
-use mathlib.Core.List.{List, [], _∷_, _++_, map, append-nil, append-assoc}
+use mathlib.Core.Bool.{false}
+use mathlib.Core.List.{List}
 use mathlib.Core.Path.{_≡_, refl, sym, ap, _∙_}
-use lib.ListN.{length, take, length-set}
 use borrow.Author.Needs.{needs}
-use Rattle.lists.specs.Range.{lowest, lowestFrom, upto, from}
-use Rattle.lists.proofs.Sought.{sought-start, sought-hit, sought-miss, sought-end}
-use Rattle.lists.proofs.Written.{map-next, take-next}
 use Rattle.rows.specs.Words.{vcpuOf, taskRows}
-use Rattle.rows.specs.Part.{isRowOf, partStart}
+use Rattle.rows.specs.Part.{isRowOf, nextOwn, partStart}
 use Rattle.rows.proofs.Parts.{start-le, start-from, before-part}
-use Rattle.times.specs.First.{At}
 use Rattle.times.specs.Times.{taskTime}
-use Rattle.admission.specs.Admission.{isLate, microseconds}
 use Rattle.admission.specs.Paper.{paperFound}
+use Rattle.admission.proofs.Timing.{Timing, timing-start, timing-next, timing-late, timing-end}
 use Rattle.admission.proofs.row_times.task_times.Statement.{statement}
 use Rattle.admission.proofs.row_times.task_times.Tie as tie
 
-abbrev late : ℕ → List ℕ → List ℕ → ℕ → Bool
-late reload vcpus tasks j = isLate (taskTime reload vcpus tasks j)
-
-abbrev time : ℕ → List ℕ → List ℕ → ℕ → ℕ
-time reload vcpus tasks j = microseconds (taskTime reload vcpus tasks j)
-
 abbrev Inv-loop : tie.InvT-loop
 Inv-loop reload vcpus tasks first rows found₀ start₀ j₀ found start j =
-    (j ≤ rows) × (rows ≡ taskRows tasks) × (48 ≡ length found)
-    × (lowest (late reload vcpus tasks) rows ≡ lowestFrom (late reload vcpus tasks) j rows)
-    × (take (first + j) found ≡ take first found₀ ++ map (time reload vcpus tasks) (upto j))
+    Timing (taskTime reload vcpus tasks) (taskRows tasks) first found₀ j found × (rows ≡ taskRows tasks)
     × (start ≤ rows) × ((m : ℕ) → m < start → (k : ℕ) → j ≤ k → k < taskRows tasks → isRowOf tasks (vcpuOf tasks k) m ≡ false)
 
 abbrev μ-loop : tie.MeasureT-loop
 μ-loop reload vcpus tasks first rows found₀ start₀ j₀ found start j = rows - j
 
+-- the places: the entry and the turn of the loop, and the turn after its second call
+abbrev entry : tie.In-loop Inv-loop μ-loop → tie.Start Inv-loop μ-loop
+entry c = c .before .before .before .before
+
+abbrev turn : tie.After-next-own Inv-loop μ-loop → tie.In-loop Inv-loop μ-loop
+turn c = c .before .before
+
 cast-rows : tie.Need-cast-rows Inv-loop μ-loop
-cast-rows c = omega (arith, c .before .before .pre .0 .tasks-few)
+cast-rows c = omega (arith, c .before .before .pre .0 .task-rows .few)
 
 loop-holds : tie.Need-loop-holds Inv-loop μ-loop
-unfolding from
-loop-holds c =
-    let s = c .before .before in
-    let t = time (s .args .reload) (s .args .vcpus .now) (s .args .tasks .now) in
-    (omega arith, refl, s .pre .2, sought-start (late (s .args .reload) (s .args .vcpus .now) (s .args .tasks .now)) _, rw (add-zero (s .args .first)) (sym (append-nil (take (s .args .first) (s .args .known)))), omega arith, λ m l. absurd (not-suc-le-zero l))
+loop-holds c = (timing-start _ _ _ _ _ refl (c .before .before .pre .2), refl, omega arith, λ m l. absurd (not-suc-le-zero l))
 
 task-word-requires : tie.Need-task-word-requires Inv-loop μ-loop
 task-word-requires c κs = search needs
@@ -53,20 +44,16 @@ next-own-requires : tie.Need-next-own-requires Inv-loop μ-loop
 next-own-requires c κs = search needs
 
 -- the part of the row's VCPU starts at the row that was found
-starts : (c : tie.After-next-own Inv-loop μ-loop) → c .next-own .result ≡ partStart (c .before .before .before .before .before .before .args .tasks .now) (vcpuOf (c .before .before .before .before .before .before .args .tasks .now) (c .before .before .before .loop .j))
+starts : (c : tie.After-next-own Inv-loop μ-loop) → c .next-own .result ≡ partStart (entry (turn c) .args .tasks .now) (vcpuOf (entry (turn c) .args .tasks .now) (turn c .before .loop .j))
 starts c =
-    let s = c .before .before .before .before .before .before in
-    let h = c .before .before .before .loop in
-    let t : List ℕ = s .args .tasks .now in
-    let here : h .j < taskRows t = omega (arith, h .inv .1) in
+    let h = turn c .before .loop in
+    let t : List ℕ = entry (turn c) .args .tasks .now in
     c .next-own .ensures
-    ∙ ap (λ (v : ℕ). lowestFrom (isRowOf t v) (h .start) (taskRows t)) (c .before .task-word .ensures)
-    ∙ start-from t (vcpuOf t (h .j)) (h .start) (omega (arith, h .inv .1, h .inv .5)) (λ m l. h .inv .6 m l (h .j) (le-refl (h .j)) here)
+    ∙ ap (λ (v : ℕ). nextOwn t (h .start) v) (c .before .task-word .ensures)
+    ∙ start-from t (vcpuOf t (h .j)) (h .start) (omega arith) (λ m l. h .inv .3 m l (h .j) (le-refl (h .j)) (omega arith))
 
 task-time-requires : tie.Need-task-time-requires Inv-loop μ-loop
-task-time-requires c κs =
-    let s = c .before .before .before .before .before .before in
-    (s .pre .0, omega (arith, c .before .before .before .loop .inv .1), starts c)
+task-time-requires c κs = (entry (turn c) .pre .0, omega arith, starts c)
 
 enum-known-time : tie.Need-enum-known-time Inv-loop μ-loop
 enum-known-time c = search needs
@@ -76,11 +63,8 @@ enum-told c = search needs
 
 returns : tie.Need-returns Inv-loop μ-loop
 returns c =
-    let s = c .before .before .before .before .before .before .before .before .before in
-    let h = c .before .before .before .before .before .before .loop in
-    let l = late (s .args .reload) (s .args .vcpus .now) (s .args .tasks .now) in
-    let is-late : l (h .j) ≡ true = ap isLate (sym (c .before .before .task-time .ensures) ∙ ap paperFound (c .enum-told .given .1)) in
-    (sym (h .inv .3 ∙ sought-hit l (h .j) _ (c .before .before .before .before .before .loop-test .taken) is-late), h .inv .4, h .inv .2)
+    let d = c .before .before in
+    timing-late _ _ _ _ (turn (d .before) .before .loop .inv .0) (omega arith) (sym (d .task-time .ensures) ∙ ap paperFound (c .enum-told .given .1))
 
 add-k : tie.Need-add-k Inv-loop μ-loop
 add-k c = search needs
@@ -102,35 +86,19 @@ loop-less c = search needs
 
 loop-again : tie.Need-loop-again Inv-loop μ-loop
 loop-again c =
-    let s = c .before .before .before .before .before .before .before .before .before .before in
-    let h = c .before .before .before .before .before .before .before .loop in
-    let l = late (s .args .reload) (s .args .vcpus .now) (s .args .tasks .now) in
-    let t = time (s .args .reload) (s .args .vcpus .now) (s .args .tasks .now) in
-    let x : ℕ = c .before .time .given .0 .0 in
-    let found-at : taskTime (s .args .reload) (s .args .vcpus .now) (s .args .tasks .now) (h .j) ≡ At x = sym (c .before .before .before .task-time .ensures) ∙ ap paperFound (c .before .time .given .1) in
+    let d = c .before .before .before in
+    let s = entry (turn (d .before)) in
+    let h = turn (d .before) .before .loop in
     let tasks : List ℕ = s .args .tasks .now in
-    let at = starts (c .before .before .before .before) in
-    let k : ℕ = s .args .first + h .j in
-    let inside : k < length (h .found) = omega (arith, h .inv .1, h .inv .2, s .pre .0 .tasks-few, s .pre .1) in
-    let next : s .args .first + (h .j + 1) ≡ k + 1 = omega arith in (
-      omega arith,
+    let at = starts (d .before) in (
+      timing-next _ _ _ _ _ _ refl (omega (arith, s .pre .0 .task-rows .few)) (h .inv .0) (omega arith) (sym (d .task-time .ensures) ∙ ap paperFound (c .before .time .given .1)),
       h .inv .1,
-      h .inv .2 ∙ sym (length-set (h .found) k x),
-      h .inv .3 ∙ sought-miss l (h .j) _ (c .before .before .before .before .before .before .loop-test .taken) (ap isLate found-at),
-      rw next
-          (take-next (h .found) k x inside
-          ∙ rw (h .inv .4, ← (ap microseconds found-at)) (append-assoc (take (s .args .first) (s .args .known)) (map t (upto (h .j))) (t (h .j) ∷ []))
-          ∙ ap (λ (r : List ℕ). take (s .args .first) (s .args .known) ++ r) (sym (map-next t (h .j)))),
-      omega (arith, h .inv .1, at, start-le tasks (vcpuOf tasks (h .j))),
+      omega (arith, at, start-le tasks (vcpuOf tasks (h .j))),
       (λ m l k g n. before-part tasks (s .pre .0 .ascending) (h .j) k m (omega arith) n (omega (arith, at, l))),
     )
 
 returns-2 : tie.Need-returns-2 Inv-loop μ-loop
-returns-2 c =
-    let s = c .before .before .before .before in
-    let h = c .before .loop in
-    let l = late (s .args .reload) (s .args .vcpus .now) (s .args .tasks .now) in
-    (sym (h .inv .3 ∙ sought-end l (h .j) _ (omega arith) ∙ omega (arith, h .inv .0, h .inv .1)), h .inv .4, h .inv .2)
+returns-2 c = timing-end _ _ _ _ (c .before .loop .inv .0) (omega arith)
 
 pub task-times-spec : {M : Type 1} → statement M
 task-times-spec =

@@ -1,0 +1,87 @@
+-- `admission::admit_rows` meets its contract: each return has the times that led there.
+use native.Mathlib.Omega.{arith}
+use mathlib.Core.Bool.{false}
+use mathlib.Core.Path.{_≡_, sym, _∙_}
+use lib.Dec.{ltb}
+use borrow.Author.Tests.{lt-ltb, le-ltb}
+use borrow.Author.Needs.{needs}
+use Rattle.refusal.specs.Reply.{Answers, unless}
+use Rattle.rows.specs.Words.{vcpuRows}
+use Rattle.admission.specs.Admission.{timeTests}
+use Rattle.admission.proofs.Admits.{lateVcpu, time-reply}
+use Rattle.admission.proofs.Written.{refused, length-times, all-times}
+use Rattle.admission.proofs.admit_rows.Statement.{statement}
+use Rattle.admission.proofs.admit_rows.Tie as tie
+
+-- the places where no VCPU and no task is late, and the entry
+abbrev entry : tie.Else1 → tie.Start
+entry c = c .before .before .before .before .before .before
+
+abbrev in-tasks : tie.Else2 → tie.Else1
+in-tasks c = c .before .before .before .before
+
+abbrev at-end : tie.After-write-times → tie.Else2
+at-end c = c .before .before .before
+
+passes-21 : (c : tie.Else1) → let a = entry c .args in ltb (lateVcpu (a .reload) (a .vcpus .now) (a .tasks .now)) (vcpuRows (a .vcpus .now)) ≡ false
+passes-21 c = rw (← c .before .before .vcpu-times .ensures .late) (le-ltb _ _ (c .if1 .left))
+
+cast-vcpu-rows : tie.Need-cast-vcpu-rows
+cast-vcpu-rows c = search needs
+
+vcpu-times-requires : tie.Need-vcpu-times-requires
+vcpu-times-requires c κs = search needs
+
+returns : tie.Need-returns
+returns c = refused _ _ _ _ _ (rw (time-reply _ _ _, ← c .before .before .vcpu-times .ensures .late, lt-ltb _ _ (c .if1 .taken)))
+
+cast-task-rows : tie.Need-cast-task-rows
+cast-task-rows c = search needs
+
+task-times-requires : tie.Need-task-times-requires
+task-times-requires c κs = search needs
+
+returns-2 : tie.Need-returns-2
+returns-2 c =
+    refused _ _ _ _ _
+    (rw (time-reply _ _ _, passes-21 (c .before .before .before .before), ← c .before .before .task-times .ensures .late, lt-ltb _ _ (c .if2 .taken)))
+
+add-write-times : tie.Need-add-write-times
+add-write-times c = search needs
+
+cast-write-times : tie.Need-cast-write-times
+cast-write-times c = search needs
+
+write-times-requires : tie.Need-write-times-requires
+write-times-requires c κs = search needs
+
+same-length : tie.Need-same-length
+same-length c = search needs
+
+returns-3 : tie.Need-returns-3
+returns-3 c =
+    let w = at-end (c .before .before) in
+    let e = in-tasks w in
+    let a = entry e .args in
+    let v = e .before .before .vcpu-times .ensures in
+    let t = w .before .before .task-times .ensures in
+    let ok : unless {A = Unit {0}} (timeTests (a .reload) (a .vcpus .now) (a .tasks .now)) tt ≡ Answers tt =
+    rw (time-reply _ _ _, passes-21 e, ← t .late, le-ltb _ _ (w .if2 .left)) in
+    let front = all-times (a .reload) (a .vcpus .now) (a .tasks .now) v (e .if1 .left) t (w .if2 .left) in
+    (sym ok, c .before .before .write-times .ensures ∙ rw (ok, front, length-times (a .reload) (a .vcpus .now) (a .tasks .now)))
+
+pub admit-rows-spec : {M : Type 1} → statement M
+admit-rows-spec =
+    tie.close
+    (tie.spec
+    cast-vcpu-rows
+    vcpu-times-requires
+    returns
+    cast-task-rows
+    task-times-requires
+    returns-2
+    add-write-times
+    cast-write-times
+    write-times-requires
+    same-length
+    returns-3)
