@@ -114,20 +114,21 @@ abbrev pub withActive : Board → ℕ → ℕ → Board
 withActive b d c =
     record { colours = b .colours; frames = b .frames; domains = b .domains; grants = b .grants; active = set (b .active) d c }
 
--- 9: the set is 0 or has a bit outside the grant. 12: more frames to move than free frames in the new set. 13: the move list is
--- shorter than three words for each move
+-- 9: the set is 0 or has a bit outside the grant. 12: more frames to move than free frames in the new set. 13: the move list, of so many
+-- words, is shorter than three words for each move
+abbrev pub recolourTests : State → ℕ → ℕ → ℕ → List Test
+recolourTests s d c room =
+    test 9 (emptyOrOutside (grant (s .board) d) c)
+    ∷ test 12 (ltb (length (choices s d c)) (length (strays s d c)))
+    ∷ test 13 (ltb room (3 * length (strays s d c)))
+    ∷ []
+
 unfoldable pub recolour : State → ℕ → ℕ → List ℕ → Outcome
 recolour s d c lent =
-    let vs = strays s d c in
-    let gs = choices s d c in
-    let ms = pairUp d (s .table) vs gs in
-    called s d
-    (test 9 (emptyOrOutside (grant (s .board) d) c)
-    ∷ test 12 (ltb (length gs) (length vs))
-    ∷ test 13 (ltb (length lent) (3 * length vs))
-    ∷ [])
+    let ms = pairUp d (s .table) (strays s d c) (choices s d c) in
+    called s d (recolourTests s d c (length lent))
     (record {
-      answer = Moved (length vs);
+      answer = Moved (length (strays s d c));
       moves = ms;
       next = record { board = withActive (s .board) d c; table = moveAll (s .table) ms };
     })
