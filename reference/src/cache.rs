@@ -5,7 +5,7 @@ use crate::reply::Reply;
 
 pub const PAGE: u128 = 4096;
 const LAST_INDEX: u32 = (1 << 24) - 1;
-const LAST_PAGE: u32 = (1 << 28) - 1;
+const LAST_BLEACHED: u32 = (1 << 28) - 1;
 
 pub fn is_count(n: u64) -> bool {
     [1, 2, 4, 8, 16].contains(&n)
@@ -53,7 +53,7 @@ pub fn bleach(n: u32, set: u32, page: u32) -> Reply<u32> {
     if let Some(number) = refused_set(n, set) {
         return Reply::refused(number);
     }
-    if page > LAST_PAGE {
+    if page > LAST_BLEACHED {
         return Reply::refused(10);
     }
     let colours = colours(set);

@@ -5,7 +5,6 @@ mod fields;
 
 pub use fields::active_set;
 pub use fields::grant_of;
-
 ghost use mathlib.Core.Path.{_≡_};
 ghost use Rattle.board.specs.Tests.{boardReply, callReply};
 ghost use Rattle.board.specs.Paper.{paperChecked};

@@ -15,43 +15,43 @@ use Rattle.calls.specs.Table.{State, word, inSet, framesWith, isChoice, 
 pub record Chosen (s : State) (c f : ℕ) : Type 0 where
   pub below : f < s .board .frames
   pub free : word (s .table) f ≡ 0
-  pub inside : inSet (s .board) c f ≡ true
+  pub inside : inSet (s .board .colours) c f ≡ true
 
-module _ (s : State) (c f : ℕ) where
-  held-is-none : eqb (word (s .table) f) 0 ≡ false → isChoice s c f ≡ false
+module _ (s : State) (d c f : ℕ) where
+  held-is-none : eqb (word (s .table) f) 0 ≡ false → isChoice s d c f ≡ false
   unfolding isChoice
   held-is-none e = simp (e, and-true, and-false)
 
-  outside-is-none : inSet (s .board) c f ≡ false → isChoice s c f ≡ false
+  outside-is-none : inSet (s .board .colours) c f ≡ false → isChoice s d c f ≡ false
   unfolding isChoice
   outside-is-none e = simp (e, and-true, and-false)
 
-  is-chosen : f < s .board .frames → isChoice s c f ≡ true → Chosen s c f
+  is-chosen : f < s .board .frames → isChoice s d c f ≡ true → Chosen s c f
   is-chosen low e =
       record {
         below = low;
         free = cases (eqb (word (s .table) f) 0) (eqb-true (word (s .table) f) 0) (λ k. absurd (true≢false (sym e ∙ held-is-none k)));
-        inside = cases (inSet (s .board) c f) (λ k. k) (λ k. absurd (true≢false (sym e ∙ outside-is-none k)));
+        inside = cases (inSet (s .board .colours) c f) (λ k. k) (λ k. absurd (true≢false (sym e ∙ outside-is-none k)));
       }
 
-pub chosen : (s : State) (c : ℕ) → Each (Chosen s c) (choices s c)
+pub chosen : (s : State) (d c : ℕ) → Each (Chosen s c) (choices s d c)
 unfolding choices framesWith
-chosen s c =
-    each-map (λ (f : ℕ). (f < s .board .frames) × (isChoice s c f ≡ true)) (Chosen s c) (λ f r. is-chosen s c f (r .0) (r .1))
-    (choices s c) (kept (isChoice s c) (s .board .frames))
+chosen s d c =
+    each-map (λ (f : ℕ). (f < s .board .frames) × (isChoice s d c f ≡ true)) (Chosen s c) (λ f r. is-chosen s d c f (r .0) (r .1))
+    (choices s d c) (kept (isChoice s d c) (s .board .frames))
 
 -- a frame of the set is a choice by its own word alone
-by-its-word : (s r : State) (c f : ℕ) → s .board .colours ≡ r .board .colours → word (s .table) f ≡ word (r .table) f → isChoice s c f ≡ isChoice r c f
+by-its-word : (s r : State) (d c f : ℕ) → s .board .colours ≡ r .board .colours → word (s .table) f ≡ word (r .table) f → isChoice s d c f ≡ isChoice r d c f
 unfolding isChoice
-by-its-word s r c f colours same = rw (colours, same)
+by-its-word s r d c f colours same = rw (colours, same)
 
-pub choice-local : (s r : State) (c : ℕ) → s .board .frames ≡ r .board .frames → s .board .colours ≡ r .board .colours
-    → ((f : ℕ) → f < s .board .frames → inSet (s .board) c f ≡ true → word (s .table) f ≡ word (r .table) f) → choices s c ≡ choices r c
+pub choice-local : (s r : State) (d c : ℕ) → s .board .frames ≡ r .board .frames → s .board .colours ≡ r .board .colours
+    → ((f : ℕ) → f < s .board .frames → inSet (s .board .colours) c f ≡ true → word (s .table) f ≡ word (r .table) f) → choices s d c ≡ choices r d c
 unfolding choices framesWith
-choice-local s r c frames colours same =
-    same-kept (isChoice s c) (isChoice r c) (s .board .frames)
+choice-local s r d c frames colours same =
+    same-kept (isChoice s d c) (isChoice r d c) (s .board .frames)
     (λ f h.
-    cases (inSet (s .board) c f)
-    (λ k. by-its-word s r c f colours (same f h k))
-    (λ k. outside-is-none s c f k ∙ sym (outside-is-none r c f (rw (← colours) k))))
-    ∙ ap (λ (n : ℕ). keep (isChoice r c) (upto n)) frames
+    cases (inSet (s .board .colours) c f)
+    (λ k. by-its-word s r d c f colours (same f h k))
+    (λ k. outside-is-none s d c f k ∙ sym (outside-is-none r d c f (rw (← colours) k))))
+    ∙ ap (λ (n : ℕ). keep (isChoice r d c) (upto n)) frames

@@ -1,2 +1,3 @@
 -- The laws of the choice of a free frame.
 pub mod Choice
+pub mod Settled

@@ -8,7 +8,7 @@ use lib.ListN.{length, set}
 use Rattle.lists.specs.Range.{headOr, isEmpty}
 use Rattle.refusal.specs.Reply.{Reply, Answers, Refuses, Test, test, unless}
 use Rattle.board.specs.declared.Board.{Board}
-use Rattle.board.specs.Tests.{grant, activeSet, emptyOrOutside, boardTests, callerTest}
+use Rattle.board.specs.Tests.{grant, activeSet, emptyOrOutside, callTests}
 use Rattle.calls.specs.Table.{State, word, wordOf, pageFor, mappedTo, choices, strays}
 
 -- what a call answers
@@ -48,10 +48,9 @@ unfoldable pub settle : State → Reply Done → Outcome
 settle s (Answers d) = record { reply = Answers (d .answer); moves = d .moves; next = d .next }
 settle s (Refuses n r) = record { reply = Refuses n r; moves = []; next = s }
 
--- 2 to 8 come first in every call, then the call's own tests
+-- the tests of a call, 2 to 8, then its own
 unfoldable pub called : State → ℕ → List Test → Done → Outcome
-called s d own done =
-    settle s (unless (boardTests (s .board) (length (s .table)) ++ (callerTest (s .board) d ∷ own)) done)
+called s d own done = settle s (unless (callTests (s .board) (length (s .table)) d ++ own) done)
 
 -- 10: a page exceeds 4,095
 abbrev pub pageTest : ℕ → Test
@@ -82,7 +81,7 @@ faultDone s w [] gs = record { answer = New (headOr 0 gs); moves = []; next = wr
 unfoldable pub fault : State → ℕ → ℕ → Outcome
 fault s d p =
     let ms = mappedTo s d p in
-    let gs = choices s (activeSet (s .board) d) in
+    let gs = choices s d (activeSet (s .board) d) in
     called s d (pageTest p ∷ test 12 (isEmpty ms && isEmpty gs) ∷ []) (faultDone s (wordOf d p) ms gs)
 
 -- release: the lowest such frame becomes free, and is the answer. 14: the page to release is unmapped
@@ -115,20 +114,21 @@ abbrev pub withActive : Board → ℕ → ℕ → Board
 withActive b d c =
     record { colours = b .colours; frames = b .frames; domains = b .domains; grants = b .grants; active = set (b .active) d c }
 
--- 9: the set is 0 or has a bit outside the grant. 12: more frames to move than free frames in the new set. 13: the move list is
--- shorter than three words for each move
+-- 9: the set is 0 or has a bit outside the grant. 12: more frames to move than free frames in the new set. 13: the move list, of so many
+-- words, is shorter than three words for each move
+abbrev pub recolourTests : State → ℕ → ℕ → ℕ → List Test
+recolourTests s d c room =
+    test 9 (emptyOrOutside (grant (s .board) d) c)
+    ∷ test 12 (ltb (length (choices s d c)) (length (strays s d c)))
+    ∷ test 13 (ltb room (3 * length (strays s d c)))
+    ∷ []
+
 unfoldable pub recolour : State → ℕ → ℕ → List ℕ → Outcome
 recolour s d c lent =
-    let vs = strays s d c in
-    let gs = choices s c in
-    let ms = pairUp d (s .table) vs gs in
-    called s d
-    (test 9 (emptyOrOutside (grant (s .board) d) c)
-    ∷ test 12 (ltb (length gs) (length vs))
-    ∷ test 13 (ltb (length lent) (3 * length vs))
-    ∷ [])
+    let ms = pairUp d (s .table) (strays s d c) (choices s d c) in
+    called s d (recolourTests s d c (length lent))
     (record {
-      answer = Moved (length vs);
+      answer = Moved (length (strays s d c));
       moves = ms;
       next = record { board = withActive (s .board) d c; table = moveAll (s .table) ms };
     })

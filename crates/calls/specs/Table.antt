@@ -34,9 +34,21 @@ isOf d w = leb (wordOf d 0) w && leb w (wordOf d 4095)
 abbrev pub pageFor : ℕ → ℕ → ℕ
 pageFor d w = w - wordOf d 0
 
--- the colour of frame f is in a set
-abbrev pub inSet : Board → ℕ → ℕ → Bool
-inSet b s f = has s (colourOf (b .colours) f)
+-- What frame f is to a call, on table t with n colours: its colour is in set c,
+abbrev pub inSet : ℕ → ℕ → ℕ → Bool
+inSet n c f = has c (colourOf n f)
+
+-- it has word w,
+abbrev pub hasWord : List ℕ → ℕ → ℕ → Bool
+hasWord t w f = eqb (word t f) w
+
+-- it is free, with a colour in set c,
+abbrev pub isFree : List ℕ → ℕ → ℕ → ℕ → Bool
+isFree t n c f = hasWord t 0 f && inSet n c f
+
+-- domain d holds it, with a colour outside set c
+abbrev pub isStray : List ℕ → ℕ → ℕ → ℕ → ℕ → Bool
+isStray t n d c f = isOf d (word t f) && not (inSet n c f)
 
 -- the frames that pass a test, ascending
 unfoldable pub framesWith : State → (ℕ → Bool) → List ℕ
@@ -44,16 +56,16 @@ framesWith s p = keep p (upto (s .board .frames))
 
 -- the frames with the domain's word for a page
 unfoldable pub mappedTo : State → ℕ → ℕ → List ℕ
-mappedTo s d p = framesWith s (λ (f : ℕ). eqb (word (s .table) f) (wordOf d p))
+mappedTo s d p = framesWith s (hasWord (s .table) (wordOf d p))
 
--- frame f is free, and its colour is in a set
-unfoldable pub isChoice : State → ℕ → ℕ → Bool
-isChoice s c f = eqb (word (s .table) f) 0 && inSet (s .board) c f
+-- frame f may be taken by domain d for set c
+unfoldable pub isChoice : State → ℕ → ℕ → ℕ → Bool
+isChoice s d c f = isFree (s .table) (s .board .colours) c f
 
--- the free frames with a colour in a set, in the order in which they are taken
-unfoldable pub choices : State → ℕ → List ℕ
-choices s c = framesWith s (isChoice s c)
+-- the frames that it may take, in the order in which they are taken
+unfoldable pub choices : State → ℕ → ℕ → List ℕ
+choices s d c = framesWith s (isChoice s d c)
 
 -- the domain's frames with a colour outside a set
 unfoldable pub strays : State → ℕ → ℕ → List ℕ
-strays s d c = framesWith s (λ (f : ℕ). isOf d (word (s .table) f) && not (inSet (s .board) c f))
+strays s d c = framesWith s (isStray (s .table) (s .board .colours) d c)

@@ -13,7 +13,7 @@ use refusal::Refusal;
 // 2^24 − 1 and 2^28 − 1: the last index of one colour of 16 is laid out on the last page.
 const LAST_INDEX: u32 = 0xFF_FFFF;
 
-const LAST_PAGE: u32 = 0xFFF_FFFF;
+const LAST_BLEACHED: u32 = 0xFFF_FFFF;
 
 pub enum Laid {
     Page(u32),
@@ -53,7 +53,7 @@ pub fn bleach(colours: u32, set: u32, page: u32) -> Bleached
     if !is_colour_set(colours, set) {
         return Bleached::Refused(Refusal { number: 9, row: 0 });
     }
-    if LAST_PAGE < page {
+    if LAST_BLEACHED < page {
         return Bleached::Refused(Refusal { number: 10, row: 0 });
     }
     let colour = page % colours;

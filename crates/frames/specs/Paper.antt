@@ -3,18 +3,18 @@
 use Rattle.refusal.specs.Reply.{Reply, Answers, Refuses}
 use Rattle.calls.specs.Calls.{Answer, Mapped, Unmapped, Old, New, Freed, Active, Moved}
 use Rattle.frames.specs.declared.mapping.Looked.{Looked}
-use Rattle.frames.specs.declared.mapping.Looked.the-variants.{Frame as LookedFrame, Unmapped as LookedUnmapped, Refused as LookedRefused}
+use Rattle.frames.specs.declared.mapping.Looked.the-variants.{Mapped as LookedMapped, Unmapped as LookedUnmapped, Refused as LookedRefused}
 use Rattle.frames.specs.declared.mapping.Faulted.{Faulted}
 use Rattle.frames.specs.declared.mapping.Faulted.the-variants.{Old as FaultedOld, New as FaultedNew, Refused as FaultedRefused}
 use Rattle.frames.specs.declared.mapping.Released.{Released}
-use Rattle.frames.specs.declared.mapping.Released.the-variants.{Frame as ReleasedFrame, Refused as ReleasedRefused}
+use Rattle.frames.specs.declared.mapping.Released.the-variants.{Freed as ReleasedFreed, Refused as ReleasedRefused}
 use Rattle.frames.specs.declared.recolouring.ActiveColours.{ActiveColours}
 use Rattle.frames.specs.declared.recolouring.ActiveColours.the-variants.{Set as ActiveSet, Refused as ActiveRefused}
 use Rattle.frames.specs.declared.recolouring.Moved.{Moved as MovedAnswer}
 use Rattle.frames.specs.declared.recolouring.Moved.the-variants.{Count as MovedCount, Refused as MovedRefused}
 
 abbrev pub paperLooked : Looked → Reply Answer
-paperLooked (LookedFrame f) = Answers (Mapped f)
+paperLooked (LookedMapped f) = Answers (Mapped f)
 paperLooked LookedUnmapped = Answers Unmapped
 paperLooked (LookedRefused r) = Refuses (r .number) (r .row)
 
@@ -24,7 +24,7 @@ paperFaulted (FaultedNew f) = Answers (New f)
 paperFaulted (FaultedRefused r) = Refuses (r .number) (r .row)
 
 abbrev pub paperReleased : Released → Reply Answer
-paperReleased (ReleasedFrame f) = Answers (Freed f)
+paperReleased (ReleasedFreed f) = Answers (Freed f)
 paperReleased (ReleasedRefused r) = Refuses (r .number) (r .row)
 
 abbrev pub paperActive : ActiveColours → Reply Answer

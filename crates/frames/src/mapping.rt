@@ -6,19 +6,19 @@ ghost use Rattle.calls.specs.Table.{stateOf};
 ghost use Rattle.calls.specs.Calls.{look as lookCall, fault as faultCall, release as releaseCall};
 ghost use Rattle.frames.specs.Paper.{paperLooked, paperFaulted, paperReleased};
 ghost use Rattle.frames.specs.Checks.{pageReply};
-use crate::recolouring::active_set;
 use crate::scan::next_word;
 use crate::scan::word_for;
 use crate::scan::word_or_free;
 use board::Board;
 use board::Checked;
+use board::active_set;
 use board::check_call;
 use refusal::Refusal;
 
 const LAST_PAGE: u32 = 4095;
 
 pub enum Looked {
-    Frame(u32),
+    Mapped(u32),
     Unmapped,
     Refused(Refusal),
 }
@@ -30,7 +30,7 @@ pub enum Faulted {
 }
 
 pub enum Released {
-    Frame(u32),
+    Freed(u32),
     Refused(Refusal),
 }
 
@@ -59,7 +59,7 @@ pub fn look(board: Board, table: &[u16], domain: u32, page: u32) -> Looked
         Checked::Accepted => {
             let frame = next_word(table, 0, word_for(domain, page));
             if frame < table.len() {
-                Looked::Frame(frame as u32)
+                Looked::Mapped(frame as u32)
             } else {
                 Looked::Unmapped
             }
@@ -94,18 +94,18 @@ pub fn fault(board: Board, table: &mut [u16], domain: u32, page: u32) -> Faulted
     Faulted::New(first as u32)
 }
 
-// The lowest frame with the domain's word for the page becomes free.
+// The frame that look finds becomes free.
 pub fn release(board: Board, table: &mut [u16], domain: u32, page: u32) -> Released
     ensures { λ r. ⌜ paperReleased r ≡ (releaseCall (stateOf board (now (table .entry))) domain page) .reply ⌝ }
     ensures { λ r. ⌜ now (table .exit) ≡ (releaseCall (stateOf board (now (table .entry))) domain page) .next .table ⌝ }
 {
-    if let Checked::Refused(refusal) = check_page(board, table.len(), domain, page) {
-        return Released::Refused(refusal);
+    match look(board, table, domain, page) {
+        Looked::Refused(refusal) => Released::Refused(refusal),
+        Looked::Unmapped => Released::Refused(Refusal { number: 14, row: 0 }),
+        Looked::Mapped(frame) => {
+            let f = frame as usize;
+            table[f] = 0;
+            Released::Freed(frame)
+        }
     }
-    let held = next_word(table, 0, word_for(domain, page));
-    if held == table.len() {
-        return Released::Refused(Refusal { number: 14, row: 0 });
-    }
-    table[held] = 0;
-    Released::Frame(held as u32)
 }

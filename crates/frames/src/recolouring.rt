@@ -2,18 +2,19 @@
 // 2 to 9, 12 and 13. Only recolour changes the board, and hands it back beside its answer.
 ghost use mathlib.Core.Path.{_≡_};
 ghost use Prim.Native.Nat.{_<_};
-ghost use Rattle.refusal.specs.Reply.{Refuses};
-ghost use Rattle.board.specs.Tests.{grant, activeSet};
 ghost use Rattle.calls.specs.Table.{stateOf};
 ghost use Rattle.calls.specs.Calls.{colours as coloursCall, recolour as recolourCall, withActive};
 ghost use Rattle.calls.specs.Moves.{Listed};
 ghost use Rattle.frames.specs.Paper.{paperActive, paperMoved};
+ghost use Rattle.frames.specs.Checks.{recolourReply};
 use crate::moving::move_all;
 use crate::scan::count_free;
 use crate::scan::count_strays;
 use board::Board;
 use board::Checked;
+use board::active_set;
 use board::check_call;
+use board::grant_of;
 use refusal::Refusal;
 
 pub enum ActiveColours {
@@ -29,24 +30,6 @@ pub enum Moved {
 pub struct Recoloured {
     pub board: Board,
     pub answer: Moved,
-}
-
-pub(crate) fn active_set(board: Board, domain: u32) -> u32
-    requires { ⌜ domain < 8 ⌝ }
-    ensures { λ r. ⌜ r ≡ activeSet board domain ⌝ }
-{
-    let active = board.active;
-    let d = domain as usize;
-    active[d]
-}
-
-fn grant_of(board: Board, domain: u32) -> u32
-    requires { ⌜ domain < 8 ⌝ }
-    ensures { λ r. ⌜ r ≡ grant board domain ⌝ }
-{
-    let grants = board.grants;
-    let d = domain as usize;
-    grants[d]
 }
 
 fn with_active(board: Board, domain: u32, set: u32) -> Board
@@ -69,18 +52,29 @@ pub fn colours(board: Board, table: &[u16], domain: u32) -> ActiveColours
     }
 }
 
-// A refusal, with the board as it was.
-fn refused(board: Board, refusal: Refusal) -> Recoloured
-    ensures { λ r. ⌜ (r .board ≡ board) × (paperMoved (r .answer) ≡ Refuses (refusal .number) (refusal .row)) ⌝ }
+// What a recolouring answers: the count of moves, or a refusal. All is counted before anything is moved.
+fn judge(board: Board, table: &[u16], domain: u32, set: u32, room: usize) -> Moved
+    ensures { λ r. ⌜ paperMoved r ≡ recolourReply (stateOf board (now (table .entry))) domain set room ⌝ }
 {
-    Recoloured {
-        board: board,
-        answer: Moved::Refused(refusal),
+    if let Checked::Refused(refusal) = check_call(board, table.len(), domain) {
+        return Moved::Refused(refusal);
     }
+    if set == 0 || set & grant_of(board, domain) != set {
+        return Moved::Refused(Refusal { number: 9, row: 0 });
+    }
+    let colours = board.colours as usize;
+    let count = count_strays(table, domain, colours, set);
+    if count_free(table, colours, set) < count {
+        return Moved::Refused(Refusal { number: 12, row: 0 });
+    }
+    if room < 3 * count {
+        return Moved::Refused(Refusal { number: 13, row: 0 });
+    }
+    Moved::Count(count as u32)
 }
 
-// The domain's frames outside the new set go to free frames inside it, and the set becomes active.
-// All is counted before anything is moved.
+// The domain's frames outside the new set go to free frames inside it, and the set becomes active. A
+// refusal leaves the board as it was.
 pub fn recolour(
     board: Board,
     table: &mut [u16],
@@ -93,23 +87,20 @@ pub fn recolour(
     ensures { λ r. ⌜ now (table .exit) ≡ (recolourCall (stateOf board (now (table .entry))) domain set (now (moves .entry))) .next .table ⌝ }
     ensures { λ r. ⌜ Listed ((recolourCall (stateOf board (now (table .entry))) domain set (now (moves .entry))) .moves) (now (moves .entry)) (now (moves .exit)) ⌝ }
 {
-    if let Checked::Refused(refusal) = check_call(board, table.len(), domain) {
-        return refused(board, refusal);
+    let answer = judge(board, table, domain, set, moves.len());
+    if let Moved::Count(count) = answer {
+        move_all(
+            table,
+            moves,
+            domain,
+            board.colours as usize,
+            set,
+            count as usize,
+        );
+        return Recoloured {
+            board: with_active(board, domain, set),
+            answer,
+        };
     }
-    if set == 0 || set & grant_of(board, domain) != set {
-        return refused(board, Refusal { number: 9, row: 0 });
-    }
-    let colours = board.colours as usize;
-    let count = count_strays(table, domain, colours, set);
-    if count_free(table, colours, set) < count {
-        return refused(board, Refusal { number: 12, row: 0 });
-    }
-    if moves.len() < 3 * count {
-        return refused(board, Refusal { number: 13, row: 0 });
-    }
-    move_all(table, moves, domain, colours, set, count);
-    Recoloured {
-        board: with_active(board, domain, set),
-        answer: Moved::Count(count as u32),
-    }
+    Recoloured { board, answer }
 }

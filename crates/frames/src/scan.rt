@@ -3,13 +3,12 @@
 ghost use mathlib.Core.Path.{_≡_};
 ghost use mathlib.Core.Bool.{true, not, _&&_};
 ghost use Prim.Native.Nat.{ℕ, _+_, _≤_, _<_};
-ghost use lib.Dec.{eqb, leb};
+ghost use lib.Dec.{eqb};
 ghost use lib.ListN.{length};
 ghost use Rattle.lists.specs.Range.{keep, upto, any, lowest, lowestFrom};
-ghost use Rattle.colours.specs.Cache.{isColourCount, colourOf};
-ghost use Rattle.colours.specs.Sets.{has};
-ghost use Rattle.calls.specs.Table.{wordOf};
-ghost use Rattle.frames.specs.Scan.{wordAt, freeIn, stop, strayOf};
+ghost use Rattle.colours.specs.Cache.{isColourCount};
+ghost use Rattle.calls.specs.Table.{wordOf, isOf, inSet, hasWord, isFree, isStray};
+ghost use Rattle.frames.specs.Scan.{stop};
 
 // The word of a frame that a domain holds for a page.
 pub(crate) fn word_for(domain: u32, page: u32) -> u16
@@ -23,7 +22,7 @@ pub(crate) fn word_for(domain: u32, page: u32) -> u16
 // gives the remainder.
 fn in_set(colours: usize, set: u32, frame: usize) -> bool
     requires { ⌜ isColourCount colours ≡ true ⌝ }
-    ensures { λ r. ⌜ r ≡ has set (colourOf colours frame) ⌝ }
+    ensures { λ r. ⌜ r ≡ inSet colours set frame ⌝ }
 {
     (set >> ((frame & (colours - 1)) as u32)) % 2 == 1
 }
@@ -31,24 +30,24 @@ fn in_set(colours: usize, set: u32, frame: usize) -> bool
 // Whether a frame with this word is free and has a colour in a set.
 fn is_free_in(word: u16, colours: usize, set: u32, frame: usize) -> bool
     requires { ⌜ isColourCount colours ≡ true ⌝ }
-    ensures { λ r. ⌜ r ≡ (eqb word 0 && has set (colourOf colours frame)) ⌝ }
+    ensures { λ r. ⌜ r ≡ (eqb word 0 && inSet colours set frame) ⌝ }
 {
     word == 0 && in_set(colours, set, frame)
 }
 
-// Whether a frame with this word is held, with a word from `first` to `last`, outside a set.
-fn is_stray(word: u16, first: u16, last: u16, colours: usize, set: u32, frame: usize) -> bool
-    requires { ⌜ isColourCount colours ≡ true ⌝ }
-    ensures { λ r. ⌜ r ≡ ((leb first word && leb word last) && not (has set (colourOf colours frame))) ⌝ }
+// Whether a domain holds a frame with this word, outside a set.
+fn is_stray(word: u16, domain: u32, colours: usize, set: u32, frame: usize) -> bool
+    requires { ⌜ (isColourCount colours ≡ true) × (domain < 8) ⌝ }
+    ensures { λ r. ⌜ r ≡ (isOf domain word && not (inSet colours set frame)) ⌝ }
 {
-    first <= word && word <= last && !in_set(colours, set, frame)
+    word_for(domain, 0) <= word && word <= word_for(domain, 4095) && !in_set(colours, set, frame)
 }
 
 // Whether one of sixteen frames from one on has a word. All are read, so that they can be compared at
 // once.
 fn word_within(table: &[u16], start: usize, word: u16) -> bool
     requires { ⌜ start + 16 ≤ length (now table) ⌝ }
-    ensures { λ r. ⌜ r ≡ any (λ (i : ℕ). wordAt (now (table .entry)) word (start + i)) (upto 16) ⌝ }
+    ensures { λ r. ⌜ r ≡ any (λ (i : ℕ). hasWord (now (table .entry)) word (start + i)) (upto 16) ⌝ }
 {
     let mut found = false;
     let mut i: usize = 0;
@@ -63,7 +62,7 @@ fn word_within(table: &[u16], start: usize, word: u16) -> bool
 // are passed over that do not have it.
 fn pass_to_word(table: &[u16], start: usize, word: u16) -> usize
     requires { ⌜ start ≤ length (now table) ⌝ }
-    ensures { λ r. ⌜ (r ≤ length (now (table .entry))) × (lowestFrom (wordAt (now (table .entry)) word) start (length (now (table .entry))) ≡ lowestFrom (wordAt (now (table .entry)) word) r (length (now (table .entry)))) ⌝ }
+    ensures { λ r. ⌜ (r ≤ length (now (table .entry))) × (lowestFrom (hasWord (now (table .entry)) word) start (length (now (table .entry))) ≡ lowestFrom (hasWord (now (table .entry)) word) r (length (now (table .entry)))) ⌝ }
 {
     let mut f = start;
     while 16 <= table.len() - f {
@@ -78,7 +77,7 @@ fn pass_to_word(table: &[u16], start: usize, word: u16) -> usize
 // The lowest frame from one on that has a word.
 pub(crate) fn next_word(table: &[u16], start: usize, word: u16) -> usize
     requires { ⌜ start ≤ length (now table) ⌝ }
-    ensures { λ r. ⌜ r ≡ lowestFrom (wordAt (now (table .entry)) word) start (length (now (table .entry))) ⌝ }
+    ensures { λ r. ⌜ r ≡ lowestFrom (hasWord (now (table .entry)) word) start (length (now (table .entry))) ⌝ }
 {
     let mut f = pass_to_word(table, start, word);
     while f < table.len() {
@@ -111,7 +110,7 @@ pub(crate) fn word_or_free(table: &[u16], word: u16, colours: usize, set: u32) -
 // The lowest free frame from one on with a colour in a set.
 pub(crate) fn next_free(table: &[u16], start: usize, colours: usize, set: u32) -> usize
     requires { ⌜ (isColourCount colours ≡ true) × (start ≤ length (now table)) ⌝ }
-    ensures { λ r. ⌜ r ≡ lowestFrom (freeIn (now (table .entry)) colours set) start (length (now (table .entry))) ⌝ }
+    ensures { λ r. ⌜ r ≡ lowestFrom (isFree (now (table .entry)) colours set) start (length (now (table .entry))) ⌝ }
 {
     let mut f = start;
     while f < table.len() {
@@ -132,13 +131,11 @@ pub(crate) fn next_stray(
     set: u32,
 ) -> usize
     requires { ⌜ (isColourCount colours ≡ true) × (start ≤ length (now table)) × (domain < 8) ⌝ }
-    ensures { λ r. ⌜ r ≡ lowestFrom (strayOf (now (table .entry)) domain colours set) start (length (now (table .entry))) ⌝ }
+    ensures { λ r. ⌜ r ≡ lowestFrom (isStray (now (table .entry)) colours domain set) start (length (now (table .entry))) ⌝ }
 {
-    let first = word_for(domain, 0);
-    let last = word_for(domain, 4095);
     let mut f = start;
     while f < table.len() {
-        if is_stray(table[f], first, last, colours, set, f) {
+        if is_stray(table[f], domain, colours, set, f) {
             return f;
         }
         f += 1;
@@ -149,7 +146,7 @@ pub(crate) fn next_stray(
 // How many free frames have a colour in a set.
 pub(crate) fn count_free(table: &[u16], colours: usize, set: u32) -> usize
     requires { ⌜ isColourCount colours ≡ true ⌝ }
-    ensures { λ r. ⌜ r ≡ length (keep (freeIn (now (table .entry)) colours set) (upto (length (now (table .entry))))) ⌝ }
+    ensures { λ r. ⌜ r ≡ length (keep (isFree (now (table .entry)) colours set) (upto (length (now (table .entry))))) ⌝ }
 {
     let mut n: usize = 0;
     let mut f: usize = 0;
@@ -165,14 +162,12 @@ pub(crate) fn count_free(table: &[u16], colours: usize, set: u32) -> usize
 // How many frames a domain holds outside a set.
 pub(crate) fn count_strays(table: &[u16], domain: u32, colours: usize, set: u32) -> usize
     requires { ⌜ (isColourCount colours ≡ true) × (domain < 8) ⌝ }
-    ensures { λ r. ⌜ r ≡ length (keep (strayOf (now (table .entry)) domain colours set) (upto (length (now (table .entry))))) ⌝ }
+    ensures { λ r. ⌜ r ≡ length (keep (isStray (now (table .entry)) colours domain set) (upto (length (now (table .entry))))) ⌝ }
 {
-    let first = word_for(domain, 0);
-    let last = word_for(domain, 4095);
     let mut n: usize = 0;
     let mut f: usize = 0;
     while f < table.len() {
-        if is_stray(table[f], first, last, colours, set, f) {
+        if is_stray(table[f], domain, colours, set, f) {
             n += 1;
         }
         f += 1;

@@ -3,8 +3,8 @@ use Prim.Native.Nat.{ℕ, zero, suc, _+_, _<_, _≤_}
 use native.Mathlib.Nat.{le-refl, zero-add, sub-zero, lt-irrefl}
 use native.Mathlib.Omega.{arith}
 use mathlib.Core.Bool.{Bool, true, false}
-use mathlib.Core.List.{List, [], _∷_, _++_, map}
-use mathlib.Core.Path.{_≡_, refl}
+use mathlib.Core.List.{List, [], _∷_, _++_, map, append-nil}
+use mathlib.Core.Path.{_≡_, refl, sym, ap, _∙_}
 use lib.Dec.{ltb}
 use borrow.Author.Tests.{lt-ltb, le-ltb}
 use Rattle.lists.specs.Choice.{if_then_else_}
@@ -21,6 +21,10 @@ module _ {A B : Type 0} (a : A) (b : B) where
   unless-refused [] ys n r e = cc
   unless-refused (t ∷ ts) ys n r e =
       cases (t .fails) (λ f. rw f (cc (rw f at e))) (λ f. rw f (unless-refused ts ys n r (rw f at e)))
+
+  -- whatever the answer would be
+  pub refuses-alike : (xs : List Test) (n r : ℕ) → unless xs a ≡ Refuses n r → unless xs b ≡ Refuses n r
+  refuses-alike xs n r e = ap (λ (ts : List Test). unless ts b) (sym (append-nil xs)) ∙ unless-refused xs [] n r e
 
   -- where none of the first tests fails, the others decide
   pub unless-passed : (xs ys : List Test) → unless xs a ≡ Answers a → unless (xs ++ ys) b ≡ unless ys b

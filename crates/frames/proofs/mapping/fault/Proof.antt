@@ -10,10 +10,10 @@ use Rattle.lists.specs.Range.{lowest, lowestFrom}
 use Rattle.refusal.specs.Reply.{Answers}
 use Rattle.board.specs.Paper.{paperChecked}
 use Rattle.board.specs.Tests.{activeSet}
-use Rattle.calls.specs.Table.{word, wordOf}
+use Rattle.calls.specs.Table.{word, wordOf, hasWord}
 use Rattle.calls.specs.Calls.{Old, New, fault}
 use Rattle.frames.specs.Checks.{pageReply}
-use Rattle.frames.specs.Scan.{wordAt, stop}
+use Rattle.frames.specs.Scan.{stop}
 use Rattle.frames.proofs.Called.{told-by, page-refused, page-accepted}
 use Rattle.frames.proofs.Pages.{first-le, fault-none, fault-here, fault-later, fault-new}
 use Rattle.frames.proofs.mapping.fault.Statement.{statement}
@@ -80,13 +80,13 @@ other c e =
 
 -- the frame with the word after it
 abbrev later : tie.Start → ℕ
-later s = lowestFrom (wordAt (table s) (wanted s)) (first s + 1) (length (table s))
+later s = lowestFrom (hasWord (table s) (wanted s)) (first s + 1) (length (table s))
 
 later-is : (c : tie.After-next-word) → c .next-word .result ≡ later (begun (c .before .before .before .before .before))
 later-is c =
     let w = c .before .before .before .before .before in
     let t : List ℕ = table (begun w) in
-    c .next-word .ensures ∙ ap₂ (λ (x f : ℕ). lowestFrom (wordAt t x) (f + 1) (length t)) (word-is w) (first-is w)
+    c .next-word .ensures ∙ ap₂ (λ (x f : ℕ). lowestFrom (hasWord t x) (f + 1) (length t)) (word-is w) (first-is w)
 
 check-page-requires : tie.Need-check-page-requires
 check-page-requires c κs = search needs
@@ -99,7 +99,7 @@ unfolding fault
 returns c =
     let a = c .before .before .before .before .before .args in
     let start = sym (c .before .before .before .check-page .ensures) ∙ ap paperChecked (c .before .refusal .given .1) in
-    told-by _ _ (page-refused _ (a .domain) (a .page) _ _ _ _ start)
+    told-by _ _ (page-refused _ (a .domain) _ _ (a .page) _ _ start)
 
 enum-told : tie.Need-enum-told
 enum-told c = search needs
@@ -108,13 +108,13 @@ word-for-requires : tie.Need-word-for-requires
 word-for-requires c κs = let g = page-accepted _ _ _ _ (passes-10 c) in (omega arith, g .1)
 
 active-set-requires : tie.Need-active-set-requires
-active-set-requires c κs = omega (arith, page-accepted _ _ _ _ (passes-10 (c .before)))
+active-set-requires c κs = search needs
 
 cast-word-or-free : tie.Need-cast-word-or-free
 cast-word-or-free c = search needs
 
 word-or-free-requires : tie.Need-word-or-free-requires
-word-or-free-requires c κs = page-accepted _ _ _ _ (passes-10 (c .before .before .before .before)) .0 .count
+word-or-free-requires c κs = page-accepted _ _ _ _ (passes-10 (c .before .before .before .before)) .0 .passed .count
 
 same-length : tie.Need-same-length
 same-length c = search needs

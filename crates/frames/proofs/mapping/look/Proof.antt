@@ -8,10 +8,9 @@ use borrow.Author.Needs.{needs}
 use Rattle.lists.specs.Range.{lowestFrom}
 use Rattle.refusal.specs.Reply.{Answers}
 use Rattle.board.specs.Paper.{paperChecked}
-use Rattle.calls.specs.Table.{wordOf}
+use Rattle.calls.specs.Table.{wordOf, hasWord}
 use Rattle.calls.specs.Calls.{Mapped, look}
 use Rattle.frames.specs.Checks.{pageReply}
-use Rattle.frames.specs.Scan.{wordAt}
 use Rattle.frames.proofs.Called.{told-by, page-refused, page-accepted}
 use Rattle.frames.proofs.Pages.{look-mapped, look-unmapped}
 use Rattle.frames.proofs.mapping.look.Statement.{statement}
@@ -38,12 +37,12 @@ passes-10 c = sym (c .before .before .check-page .ensures) ∙ ap paperChecked (
 
 -- the lowest frame with the word
 abbrev held : tie.Start → ℕ
-held s = lowestFrom (wordAt (table s) (wanted s)) 0 (length (table s))
+held s = lowestFrom (hasWord (table s) (wanted s)) 0 (length (table s))
 
 held-is : (c : tie.After-next-word) → c .next-word .result ≡ held (entry (told c))
 held-is c =
     let t : List ℕ = table (entry (told c)) in
-    c .next-word .ensures ∙ ap (λ (w : ℕ). lowestFrom (wordAt t w) 0 (length t)) (c .before .word-for .ensures)
+    c .next-word .ensures ∙ ap (λ (w : ℕ). lowestFrom (hasWord t w) 0 (length t)) (c .before .word-for .ensures)
 
 check-page-requires : tie.Need-check-page-requires
 check-page-requires c κs = search needs
@@ -68,7 +67,7 @@ unfolding look
 returns c =
     let a = c .before .before .before .before .before .args in
     let first = sym (c .before .before .before .check-page .ensures) ∙ ap paperChecked (c .before .refusal .given .1) in
-    told-by _ _ (page-refused _ (a .domain) (a .page) _ _ _ _ first) .0
+    told-by _ _ (page-refused _ (a .domain) _ _ (a .page) _ _ first) .0
 
 returns-2 : tie.Need-returns-2
 returns-2 c =

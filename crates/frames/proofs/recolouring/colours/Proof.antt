@@ -6,7 +6,6 @@ use borrow.Author.Needs.{needs}
 use Rattle.refusal.specs.Reply.{Answers, unless}
 use Rattle.board.specs.Paper.{paperChecked}
 use Rattle.board.specs.Tests.{callReply}
-use Rattle.board.proofs.Accepted.{accepted}
 use Rattle.calls.specs.Calls.{Outcome, settle, colours}
 use Rattle.frames.proofs.Called.{call-refused, call-passed}
 use Rattle.frames.proofs.recolouring.colours.Statement.{statement}
@@ -27,7 +26,7 @@ enum-told : tie.Need-enum-told
 enum-told c = search needs
 
 active-set-requires : tie.Need-active-set-requires
-active-set-requires c κs = omega (arith, accepted _ _ _ (ok c))
+active-set-requires c κs = search needs
 
 returns : tie.Need-returns
 unfolding colours

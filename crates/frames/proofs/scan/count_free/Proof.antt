@@ -7,23 +7,19 @@ use mathlib.Core.Logic.{⊎-elim}
 use mathlib.Core.Path.{_≡_, sym, ap, _∙_}
 use lib.ListN.{length}
 use borrow.Author.Needs.{needs}
-use Rattle.lists.specs.Range.{upto, keep}
-use Rattle.lists.proofs.Kept.{ahead, ahead-start, ahead-take, ahead-skip, ahead-end}
-use Rattle.frames.specs.Scan.{freeIn}
+use Rattle.lists.proofs.Sought.{Counting, counting-start, counting-hit, counting-miss, counting-end}
+use Rattle.calls.specs.Table.{isFree}
 use Rattle.frames.proofs.scan.count_free.Statement.{statement}
 use Rattle.frames.proofs.scan.count_free.Tie as tie
 
 abbrev Inv-loop : tie.InvT-loop
-Inv-loop table colours set n₀ f₀ n f = (f ≤ length table) × (n ≤ f) × (length (keep (freeIn table colours set) (upto (length table))) ≡ n + length (ahead (freeIn table colours set) f (length table)))
+Inv-loop table colours set n₀ f₀ n f = Counting (isFree table colours set) (length table) f n
 
 abbrev μ-loop : tie.MeasureT-loop
 μ-loop table colours set n₀ f₀ n f = length table - f
 
 loop-holds : tie.Need-loop-holds Inv-loop μ-loop
-loop-holds c =
-    let a = c .before .args in
-    let t : List ℕ = a .table .now in
-    (omega arith, omega arith, omega (arith, ap length (ahead-start (freeIn t (a .colours) (a .set)) (length t))))
+loop-holds c = counting-start _ _
 
 mul-is-free-in : tie.Need-mul-is-free-in Inv-loop μ-loop
 mul-is-free-in c = omega arith
@@ -45,25 +41,14 @@ loop-less c = omega arith
 
 loop-again : tie.Need-loop-again Inv-loop μ-loop
 loop-again c =
-    let a = c .before .before .before .before .before .before .args in
-    let t : List ℕ = a .table .now in
-    let h = c .before .before .before .before .loop in
-    let l : h .f < length t = omega arith in
+    let h = c .before .before .before .before .loop .inv in
     ⊎-elim
-    (λ w.
-    let here : freeIn t (a .colours) (a .set) (h .f) ≡ true = sym (c .before .is-free-in .ensures) ∙ w .0 .taken in
-    (omega arith, omega arith, omega (arith, h .inv .2, w .1, ap length (ahead-take (freeIn t (a .colours) (a .set)) (h .f) (length t) l here))))
-    (λ w.
-    let here : freeIn t (a .colours) (a .set) (h .f) ≡ false = sym (c .before .is-free-in .ensures) ∙ w .0 .left in
-    (omega arith, omega arith, omega (arith, h .inv .2, w .1, ap length (ahead-skip (freeIn t (a .colours) (a .set)) (h .f) (length t) l here))))
+    (λ w. rw (w .1) (counting-hit _ h (omega arith) (sym (c .before .is-free-in .ensures) ∙ w .0 .taken)))
+    (λ w. rw (w .1) (counting-miss _ h (omega arith) (sym (c .before .is-free-in .ensures) ∙ w .0 .left)))
     (c .if1 .came)
 
 returns : tie.Need-returns Inv-loop μ-loop
-returns c =
-    let a = c .before .before .before .args in
-    let t : List ℕ = a .table .now in
-    let h = c .before .loop in
-    omega (arith, h .inv .2, ap length (ahead-end (freeIn t (a .colours) (a .set)) (h .f) (length t) (omega arith)))
+returns c = counting-end _ (c .before .loop .inv) (omega arith)
 
 pub count-free-spec : {M : Type 1} → statement M
 count-free-spec =

@@ -5,44 +5,20 @@ use mathlib.Core.Bool.{Bool, true, false, not, _&&_}
 use mathlib.Core.List.{List}
 use mathlib.Core.Path.{_≡_, refl, sym, ap₂, _∙_}
 use lib.ListN.{length}
-use lib.Dec.{leb}
 use borrow.Author.Needs.{needs}
-use Rattle.lists.specs.Range.{lowestFrom}
-use Rattle.lists.proofs.Sought.{sought-hit, sought-miss, sought-end}
-use Rattle.colours.specs.Sets.{has}
-use Rattle.colours.specs.Cache.{colourOf}
-use Rattle.calls.specs.Table.{word}
-use Rattle.frames.specs.Scan.{strayOf}
+use Rattle.lists.proofs.Sought.{Seeking, seek-start, seek-hit, seek-miss, seek-end}
+use Rattle.calls.specs.Table.{word, isStray}
 use Rattle.frames.proofs.scan.next_stray.Statement.{statement}
 use Rattle.frames.proofs.scan.next_stray.Tie as tie
 
 abbrev Inv-loop : tie.InvT-loop
-Inv-loop table start domain colours set first last f₀ f = (f ≤ length table) × (lowestFrom (strayOf table domain colours set) start (length table) ≡ lowestFrom (strayOf table domain colours set) f (length table))
+Inv-loop table start domain colours set f₀ f = Seeking (isStray table colours domain set) start (length table) f
 
 abbrev μ-loop : tie.MeasureT-loop
-μ-loop table start domain colours set first last f₀ f = length table - f
-
-abbrev stray : tie.Start Inv-loop μ-loop → ℕ → Bool
-stray s f = strayOf (s .args .table .now) (s .args .domain) (s .args .colours) (s .args .set) f
-
-stray-is : (c : tie.After-is-stray Inv-loop μ-loop) → c .is-stray .result ≡ stray (c .before .before .before .before .before .before .before) (c .before .before .before .loop .f)
-stray-is c =
-    let a = c .before .before .before .before .before .before .before .args in
-    let f : ℕ = c .before .before .before .loop .f in
-    let w : ℕ = word (a .table .now) f in
-    c .is-stray .ensures
-    ∙ ap₂ (λ (x y : ℕ). (leb x w && leb w y) && not (has (a .set) (colourOf (a .colours) f)))
-    (c .before .before .before .before .before .word-for .ensures)
-    (c .before .before .before .before .word-for2 .ensures)
-
-word-for-requires : tie.Need-word-for-requires Inv-loop μ-loop
-word-for-requires c κs = search needs
-
-word-for-requires-2 : tie.Need-word-for-requires-2 Inv-loop μ-loop
-word-for-requires-2 c κs = search needs
+μ-loop table start domain colours set f₀ f = length table - f
 
 loop-holds : tie.Need-loop-holds Inv-loop μ-loop
-loop-holds c = (omega arith, refl)
+loop-holds c = seek-start _ _ _ (omega arith)
 
 mul-is-stray : tie.Need-mul-is-stray Inv-loop μ-loop
 mul-is-stray c = omega arith
@@ -54,12 +30,7 @@ is-stray-requires : tie.Need-is-stray-requires Inv-loop μ-loop
 is-stray-requires c κs = search needs
 
 returns : tie.Need-returns Inv-loop μ-loop
-returns c =
-    let a = c .before .before .before .before .before .before .before .before .args in
-    let t : List ℕ = a .table .now in
-    let h = c .before .before .before .before .loop in
-    let here : strayOf t (a .domain) (a .colours) (a .set) (h .f) ≡ true = sym (stray-is (c .before)) ∙ c .if1 .taken in
-    sym (h .inv .1 ∙ sought-hit (strayOf t (a .domain) (a .colours) (a .set)) (h .f) (length t) (omega arith) here)
+returns c = seek-hit _ (c .before .before .before .before .loop .inv) (omega arith) (sym (c .before .is-stray .ensures) ∙ c .if1 .taken)
 
 add-f : tie.Need-add-f Inv-loop μ-loop
 add-f c = omega arith
@@ -68,20 +39,10 @@ loop-less : tie.Need-loop-less Inv-loop μ-loop
 loop-less c = omega arith
 
 loop-again : tie.Need-loop-again Inv-loop μ-loop
-loop-again c =
-    let a = c .before .before .before .before .before .before .before .before .args in
-    let t : List ℕ = a .table .now in
-    let h = c .before .before .before .before .loop in
-    let here : strayOf t (a .domain) (a .colours) (a .set) (h .f) ≡ false = sym (stray-is (c .before)) ∙ c .if1 .left in
-    (omega arith, h .inv .1 ∙ sought-miss (strayOf t (a .domain) (a .colours) (a .set)) (h .f) (length t) (omega arith) here)
+loop-again c = seek-miss _ (c .before .before .before .before .loop .inv) (omega arith) (sym (c .before .is-stray .ensures) ∙ c .if1 .left)
 
 returns-2 : tie.Need-returns-2 Inv-loop μ-loop
-returns-2 c =
-    let a = c .before .before .before .before .before .args in
-    let t : List ℕ = a .table .now in
-    let h = c .before .loop in
-    let done : h .f ≡ length t = omega arith in
-    done ∙ sym (h .inv .1 ∙ sought-end (strayOf t (a .domain) (a .colours) (a .set)) (h .f) (length t) (omega arith))
+returns-2 c = seek-end _ (c .before .loop .inv) (omega arith)
 
 pub next-stray-spec : {M : Type 1} → statement M
 next-stray-spec =
@@ -89,8 +50,6 @@ next-stray-spec =
     (tie.spec
     Inv-loop
     μ-loop
-    word-for-requires
-    word-for-requires-2
     loop-holds
     mul-is-stray
     shared-slice-read-is-stray

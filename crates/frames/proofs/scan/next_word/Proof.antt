@@ -6,20 +6,19 @@ use mathlib.Core.List.{List}
 use mathlib.Core.Path.{_≡_, sym, _∙_}
 use lib.ListN.{length}
 use borrow.Author.Tests.{eq-eqb, ne-eqb}
-use Rattle.lists.specs.Range.{lowestFrom}
-use Rattle.lists.proofs.Sought.{sought-hit, sought-miss, sought-end}
-use Rattle.frames.specs.Scan.{wordAt}
+use Rattle.lists.proofs.Sought.{Seeking, seek-hit, seek-miss, seek-end}
+use Rattle.calls.specs.Table.{hasWord}
 use Rattle.frames.proofs.scan.next_word.Statement.{statement}
 use Rattle.frames.proofs.scan.next_word.Tie as tie
 
 abbrev Inv-loop : tie.InvT-loop
-Inv-loop table start word f₀ f = (f ≤ length table) × (lowestFrom (wordAt table word) start (length table) ≡ lowestFrom (wordAt table word) f (length table))
+Inv-loop table start word f₀ f = Seeking (hasWord table word) start (length table) f
 
 abbrev μ-loop : tie.MeasureT-loop
 μ-loop table start word f₀ f = length table - f
 
 loop-holds : tie.Need-loop-holds Inv-loop μ-loop
-loop-holds c = c .pass-to-word .ensures
+loop-holds c = record { within = c .pass-to-word .ensures .0; ahead = c .pass-to-word .ensures .1 }
 
 mul-if1 : tie.Need-mul-if1 Inv-loop μ-loop
 mul-if1 c = omega arith
@@ -31,12 +30,7 @@ shared-slice-read-if1 : tie.Need-shared-slice-read-if1 Inv-loop μ-loop
 shared-slice-read-if1 c = omega arith
 
 returns : tie.Need-returns Inv-loop μ-loop
-returns c =
-    let a = c .before .before .before .before .before .before .args in
-    let t : List ℕ = a .table .now in
-    let h = c .before .before .before .loop in
-    let here : wordAt t (a .word) (h .f) ≡ true = eq-eqb _ _ (c .if1 .taken) in
-    sym (h .inv .1 ∙ sought-hit (wordAt t (a .word)) (h .f) (length t) (omega arith) here)
+returns c = seek-hit _ (c .before .before .before .loop .inv) (omega arith) (eq-eqb _ _ (c .if1 .taken))
 
 add-f : tie.Need-add-f Inv-loop μ-loop
 add-f c = omega arith
@@ -45,20 +39,10 @@ loop-less : tie.Need-loop-less Inv-loop μ-loop
 loop-less c = omega arith
 
 loop-again : tie.Need-loop-again Inv-loop μ-loop
-loop-again c =
-    let a = c .before .before .before .before .before .before .args in
-    let t : List ℕ = a .table .now in
-    let h = c .before .before .before .loop in
-    let here : wordAt t (a .word) (h .f) ≡ false = ne-eqb _ _ (c .if1 .left) in
-    (omega arith, h .inv .1 ∙ sought-miss (wordAt t (a .word)) (h .f) (length t) (omega arith) here)
+loop-again c = seek-miss _ (c .before .before .before .loop .inv) (omega arith) (ne-eqb _ _ (c .if1 .left))
 
 returns-2 : tie.Need-returns-2 Inv-loop μ-loop
-returns-2 c =
-    let a = c .before .before .before .before .args in
-    let t : List ℕ = a .table .now in
-    let h = c .before .loop in
-    let done : h .f ≡ length t = omega arith in
-    done ∙ sym (h .inv .1 ∙ sought-end (wordAt t (a .word)) (h .f) (length t) (omega arith))
+returns-2 c = seek-end _ (c .before .loop .inv) (omega arith)
 
 pub next-word-spec : {M : Type 1} → statement M
 next-word-spec =

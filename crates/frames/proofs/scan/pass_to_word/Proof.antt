@@ -5,13 +5,13 @@ use mathlib.Core.List.{List}
 use mathlib.Core.Path.{_≡_, refl, sym, _∙_}
 use lib.ListN.{length}
 use Rattle.lists.specs.Range.{lowestFrom}
-use Rattle.frames.specs.Scan.{wordAt}
+use Rattle.calls.specs.Table.{hasWord}
 use Rattle.frames.proofs.Blocks.{block-missed}
 use Rattle.frames.proofs.scan.pass_to_word.Statement.{statement}
 use Rattle.frames.proofs.scan.pass_to_word.Tie as tie
 
 abbrev Inv-loop : tie.InvT-loop
-Inv-loop table start word f₀ f = (f ≤ length table) × (lowestFrom (wordAt table word) start (length table) ≡ lowestFrom (wordAt table word) f (length table))
+Inv-loop table start word f₀ f = (f ≤ length table) × (lowestFrom (hasWord table word) start (length table) ≡ lowestFrom (hasWord table word) f (length table))
 
 abbrev μ-loop : tie.MeasureT-loop
 μ-loop table start word f₀ f = length table - f
@@ -40,7 +40,7 @@ loop-again c =
     let t : List ℕ = a .table .now in
     let h = c .before .before .before .loop in
     let none = sym (c .before .word-within .ensures) ∙ c .if1 .left in
-    (omega arith, h .inv .1 ∙ block-missed (wordAt t (a .word)) (h .f) (length t) (omega arith) none)
+    (omega arith, h .inv .1 ∙ block-missed (hasWord t (a .word)) (h .f) (length t) (omega arith) none)
 
 returns-2 : tie.Need-returns-2 Inv-loop μ-loop
 returns-2 c = c .before .loop .inv

@@ -7,20 +7,19 @@ use mathlib.Core.Path.{_≡_, sym, _∙_}
 use lib.ListN.{length}
 use borrow.Author.Needs.{needs}
 use borrow.Author.Tests.{eq-eqb, ne-eqb}
-use Rattle.lists.specs.Range.{lowest, lowestFrom}
-use Rattle.lists.proofs.Sought.{sought-start, sought-hit, sought-miss, sought-end}
+use Rattle.lists.proofs.Sought.{Seeking, seek-start, seek-hit, seek-miss, seek-end}
 use Rattle.frames.specs.Scan.{stop}
 use Rattle.frames.proofs.scan.word_or_free.Statement.{statement}
 use Rattle.frames.proofs.scan.word_or_free.Tie as tie
 
 abbrev Inv-loop : tie.InvT-loop
-Inv-loop table word colours set f₀ f = (f ≤ length table) × (lowest (stop table word colours set) (length table) ≡ lowestFrom (stop table word colours set) f (length table))
+Inv-loop table word colours set f₀ f = Seeking (stop table word colours set) 0 (length table) f
 
 abbrev μ-loop : tie.MeasureT-loop
 μ-loop table word colours set f₀ f = length table - f
 
 loop-holds : tie.Need-loop-holds Inv-loop μ-loop
-loop-holds c = let a = c .before .args in (omega arith, sought-start (stop (a .table .now) (a .word) (a .colours) (a .set)) (length (a .table .now)))
+loop-holds c = seek-start _ _ _ (omega arith)
 
 mul-if1 : tie.Need-mul-if1 Inv-loop μ-loop
 mul-if1 c = omega arith
@@ -29,12 +28,7 @@ shared-slice-read-if1 : tie.Need-shared-slice-read-if1 Inv-loop μ-loop
 shared-slice-read-if1 c = omega arith
 
 returns : tie.Need-returns Inv-loop μ-loop
-returns c =
-    let a = c .before .before .before .before .before .args in
-    let t : List ℕ = a .table .now in
-    let h = c .before .before .before .loop in
-    let here : stop t (a .word) (a .colours) (a .set) (h .f) ≡ true = simp (eq-eqb _ _ (c .if1 .taken)) in
-    sym (h .inv .1 ∙ sought-hit (stop t (a .word) (a .colours) (a .set)) (h .f) (length t) (omega arith) here)
+returns c = seek-hit _ (c .before .before .before .loop .inv) (omega arith) (simp (eq-eqb _ _ (c .if1 .taken)))
 
 mul-is-free-in : tie.Need-mul-is-free-in Inv-loop μ-loop
 mul-is-free-in c = omega arith
@@ -46,12 +40,7 @@ is-free-in-requires : tie.Need-is-free-in-requires Inv-loop μ-loop
 is-free-in-requires c κs = search needs
 
 returns-2 : tie.Need-returns-2 Inv-loop μ-loop
-returns-2 c =
-    let a = c .before .before .before .before .before .before .before .before .args in
-    let t : List ℕ = a .table .now in
-    let h = c .before .before .before .before .before .before .loop in
-    let here : stop t (a .word) (a .colours) (a .set) (h .f) ≡ true = rw (ne-eqb _ _ (c .before .before .before .if1 .left)) (sym (c .before .is-free-in .ensures) ∙ c .if2 .taken) in
-    sym (h .inv .1 ∙ sought-hit (stop t (a .word) (a .colours) (a .set)) (h .f) (length t) (omega arith) here)
+returns-2 c = seek-hit _ (c .before .before .before .before .before .before .loop .inv) (omega arith) (rw (ne-eqb _ _ (c .before .before .before .if1 .left)) (sym (c .before .is-free-in .ensures) ∙ c .if2 .taken))
 
 add-f : tie.Need-add-f Inv-loop μ-loop
 add-f c = omega arith
@@ -60,20 +49,10 @@ loop-less : tie.Need-loop-less Inv-loop μ-loop
 loop-less c = omega arith
 
 loop-again : tie.Need-loop-again Inv-loop μ-loop
-loop-again c =
-    let a = c .before .before .before .before .before .before .before .before .args in
-    let t : List ℕ = a .table .now in
-    let h = c .before .before .before .before .before .before .loop in
-    let here : stop t (a .word) (a .colours) (a .set) (h .f) ≡ false = rw (ne-eqb _ _ (c .before .before .before .if1 .left)) (sym (c .before .is-free-in .ensures) ∙ c .if2 .left) in
-    (omega arith, h .inv .1 ∙ sought-miss (stop t (a .word) (a .colours) (a .set)) (h .f) (length t) (omega arith) here)
+loop-again c = seek-miss _ (c .before .before .before .before .before .before .loop .inv) (omega arith) (rw (ne-eqb _ _ (c .before .before .before .if1 .left)) (sym (c .before .is-free-in .ensures) ∙ c .if2 .left))
 
 returns-3 : tie.Need-returns-3 Inv-loop μ-loop
-returns-3 c =
-    let a = c .before .before .before .args in
-    let t : List ℕ = a .table .now in
-    let h = c .before .loop in
-    let done : h .f ≡ length t = omega arith in
-    done ∙ sym (h .inv .1 ∙ sought-end (stop t (a .word) (a .colours) (a .set)) (h .f) (length t) (omega arith))
+returns-3 c = seek-end _ (c .before .loop .inv) (omega arith)
 
 pub word-or-free-spec : {M : Type 1} → statement M
 word-or-free-spec =

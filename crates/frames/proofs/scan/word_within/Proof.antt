@@ -4,12 +4,12 @@ use native.Mathlib.Omega.{arith}
 use mathlib.Core.Bool.{Bool}
 use mathlib.Core.List.{List}
 use Rattle.lists.proofs.Sought.{any-start, Asked, asked-next, asked-end}
-use Rattle.frames.specs.Scan.{wordAt}
+use Rattle.calls.specs.Table.{hasWord}
 use Rattle.frames.proofs.scan.word_within.Statement.{statement}
 use Rattle.frames.proofs.scan.word_within.Tie as tie
 
 abbrev test : List ℕ → ℕ → ℕ → ℕ → Bool
-test t w s i = wordAt t w (s + i)
+test t w s i = hasWord t w (s + i)
 
 abbrev Inv-loop : tie.InvT-loop
 Inv-loop table start word found₀ i₀ found i = (i ≤ 16) × Asked (test table word start) 16 i found
