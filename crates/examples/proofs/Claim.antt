@@ -14,8 +14,8 @@ use Rattle.colours.specs.Cache.{isColourCount, cacheReply}
 use Rattle.colours.specs.Pages.{layoutPage, layoutReply, bleachIndex, bleachReply, dropBits, equationOne}
 use Rattle.supply.specs.Supply.{supply}
 use Rattle.rows.specs.Words.{cost, colours-shared}
-use Rattle.rows.specs.Part.{partStart, partEnd, partOf}
-use Rattle.plan.specs.Tests.{planTests}
+use Rattle.rows.specs.Part.{partStart, partEnd, rowsFrom, partOf}
+use Rattle.plan.specs.Tests.{rowTests, planTests}
 use Rattle.times.specs.First.{firstFrom, firstTime}
 use Rattle.times.specs.Need.{arrivals, need}
 use Rattle.times.specs.Times.{charge, taskNeed, timeInPart, taskTime, vcpuCharge, vcpuNeed, vcpuTime}
@@ -25,5 +25,5 @@ use Rattle.examples.specs.Table.{examples}
 
 pub claim : allHold examples ≡ true
 unfolding
-    ones onesIn from keep unless isColourSet has coloursBelow colourAt placeOf isColourCount cacheReply layoutPage layoutReply bleachIndex bleachReply dropBits equationOne each sizeTests domainTests boardTests framesWith mappedTo isChoice choices strays settle called look fault release colours pairUp moveAll recolour triples run lowest lowestFrom supply cost colours-shared partStart partEnd partOf planTests firstFrom firstTime arrivals need charge taskNeed timeInPart taskTime vcpuCharge vcpuNeed vcpuTime timeTests admissionReply sameReply sameList numbers timeNumbers admissionNumbers holds allHold examples
+    ones onesIn from keep unless isColourSet has coloursBelow colourAt placeOf isColourCount cacheReply layoutPage layoutReply bleachIndex bleachReply dropBits equationOne each sizeTests domainTests boardTests framesWith mappedTo isChoice choices strays settle called look fault release colours pairUp moveAll recolour triples run lowest lowestFrom supply cost colours-shared partStart partEnd rowsFrom partOf rowTests planTests firstFrom firstTime arrivals need charge taskNeed timeInPart taskTime vcpuCharge vcpuNeed vcpuTime timeTests admissionReply sameReply sameList numbers timeNumbers admissionNumbers holds allHold examples
 claim = refl

@@ -17,7 +17,7 @@ task-word-requires-2 c κs = search needs
 
 returns : tie.Need-returns
 unfolding cost
-returns c = cc (c .task-word2 .ensures, c .before .task-word .ensures)
+returns c = rw (c .task-word2 .ensures, c .before .task-word .ensures)
 
 pub cost-spec : {M : Type 1} → statement M
 cost-spec = tie.close (tie.spec task-word-requires add-task-word task-word-requires-2 returns)

@@ -12,7 +12,7 @@ task-word-requires-2 c κs = search needs
 
 returns : tie.Need-returns
 unfolding colours-shared
-returns c = cc (c .task-word2 .ensures, c .before .task-word .ensures)
+returns c = rw (c .task-word2 .ensures, c .before .task-word .ensures)
 
 pub shared-spec : {M : Type 1} → statement M
 shared-spec = tie.close (tie.spec task-word-requires task-word-requires-2 returns)
