@@ -1,6 +1,6 @@
 -- A plan that passes 15 to 19, on a board that passes 2 to 7, is `Plan`: its lists are of their sizes and every row within its ranges. Each
 -- task holds 1 to 16 colours of its grant, so that its cost is one of the sixteen. And by 16 the list of times has room.
-use Prim.Native.Nat.{ℕ, _+_, _-_, _%_, _^_, _<_, _≤_}
+use Prim.Native.Nat.{ℕ, _+_, _-_, _/_, _%_, _^_, _<_, _≤_}
 use native.Mathlib.Nat.{pos-of-ne-zero, lt-of-le-of-lt}
 use native.Mathlib.Omega.{arith}
 use mathlib.Core.Bool.{true, false, not}
@@ -14,7 +14,7 @@ use borrow.Author.Tests.{ltb-true, ltb-false, lt-ltb, eqb-true, eqb-false, not-f
 use Rattle.lists.specs.Range.{from, any}
 use Rattle.lists.proofs.Split.{neither}
 use Rattle.lists.proofs.Found.{any-from}
-use Rattle.refusal.specs.Reply.{Test, Answers, each}
+use Rattle.refusal.specs.Reply.{Test, Answers, test, each}
 use Rattle.refusal.proofs.Replies.{passed-first, answers-passed}
 use Rattle.refusal.proofs.Order.{passed-earlier, passed-later, each-passed}
 use Rattle.colours.proofs.Bits.{ones-pos}
@@ -24,12 +24,12 @@ use Rattle.board.specs.Tests.{grant, emptyOrOutside, boardTests, boardReply}
 use Rattle.board.proofs.Passed.{Passed, split}
 use Rattle.rows.specs.Words.{core, domain, vcpuPeriod, budget, vcpuOf, taskPeriod, deadline, colourSet, costWith, cost, vcpuRows, taskRows}
 use Rattle.rows.specs.Valid.{TaskRow, VcpuRow, Ascending, Plan}
-use Rattle.plan.specs.Tests.{zeroOrAbove, badTimes, vcpuWordsTest, taskWordsTest, badVcpu, badCost, badTask, badOrder, sharesColour, rowTests, planTests, planReply}
+use Rattle.plan.specs.Tests.{zeroOrAbove, badTimes, badVcpuWords, badTaskWords, badVcpu, badCost, badTask, badOrder, sharesColour, rowTests, planTests, planReply}
 
 -- 15 to 19, test by test
 pub record Tested (b : Board) (reload : ℕ) (vcpus tasks : List ℕ) (room : ℕ) : Type 0 where
-  pub vcpu-words : vcpuWordsTest reload vcpus .fails ≡ false
-  pub task-words : taskWordsTest vcpus tasks room .fails ≡ false
+  pub vcpu-words : badVcpuWords reload (length vcpus) ≡ false
+  pub task-words : badTaskWords (vcpuRows vcpus) (length tasks) room ≡ false
   pub vcpu-rows : (i : ℕ) → i < vcpuRows vcpus → badVcpu b vcpus i ≡ false
   pub task-rows : (j : ℕ) → j < taskRows tasks → badTask b vcpus tasks j ≡ false
   pub order : (j : ℕ) → j < taskRows tasks → badOrder tasks j ≡ false
@@ -42,8 +42,8 @@ tested b reload vcpus tasks room e =
     let eighteen : List Test = each n 18 (badTask b vcpus tasks) in
     let nineteen : List Test = each n 19 (badOrder tasks) in
     let twenty : List Test = each n 20 (sharesColour tasks) in
-    let first = passed-first (vcpuWordsTest reload vcpus) _ (answers-passed (planTests b reload vcpus tasks room) tt tt e .0) in
-    let second = passed-first (taskWordsTest vcpus tasks room) _ (first .1) in
+    let first = passed-first (test 15 (badVcpuWords reload (length vcpus))) _ (answers-passed (planTests b reload vcpus tasks room) tt tt e .0) in
+    let second = passed-first (test 16 (badTaskWords (vcpuRows vcpus) (length tasks) room)) _ (first .1) in
     let from-18 = passed-later seventeen (eighteen ++ (nineteen ++ twenty)) (second .1) in
     let from-19 = passed-later eighteen (nineteen ++ twenty) from-18 in
     record {
@@ -60,16 +60,15 @@ ranged limit x e =
     (pos-of-ne-zero (eqb-false x 0 (r .0)), ltb-false limit x (r .1))
 
 -- 15 and 16
-pub vcpus-most : (reload : ℕ) (vcpus : List ℕ) → vcpuWordsTest reload vcpus .fails ≡ false → (reload ≤ 10000) × (length vcpus ≤ 64)
-vcpus-most reload vcpus e =
+pub vcpus-most : (reload words : ℕ) → badVcpuWords reload words ≡ false → (reload ≤ 10000) × (words ≤ 64)
+vcpus-most reload words e =
     let v = neither (ltb 10000 reload) _ e in
-    (ltb-false 10000 reload (v .0), ranged 64 (length vcpus) (neither (zeroOrAbove 64 (length vcpus)) _ (v .1) .0) .1)
+    (ltb-false 10000 reload (v .0), ranged 64 words (neither (zeroOrAbove 64 words) _ (v .1) .0) .1)
 
-pub tasks-most : (vcpus tasks : List ℕ) (room : ℕ) → taskWordsTest vcpus tasks room .fails ≡ false
-    → (length tasks ≤ 640) × (vcpuRows vcpus + taskRows tasks ≤ room)
-tasks-most vcpus tasks room e =
-    let t = neither (zeroOrAbove 640 (length tasks)) _ e in
-    (ranged 640 (length tasks) (t .0) .1, ltb-false room _ (neither (not (eqb (length tasks % 20) 0)) _ (t .1) .1))
+pub tasks-most : (rows words room : ℕ) → badTaskWords rows words room ≡ false → (words ≤ 640) × (rows + words / 20 ≤ room)
+tasks-most rows words room e =
+    let t = neither (zeroOrAbove 640 words) _ e in
+    (ranged 640 words (t .0) .1, ltb-false room _ (neither (not (eqb (words % 20) 0)) _ (t .1) .1))
 
 module _ (b : Board) (vcpus tasks : List ℕ) where
   vcpu-row : (i : ℕ) → i < vcpuRows vcpus → badVcpu b vcpus i ≡ false → VcpuRow vcpus i × (domain vcpus i < b .domains)
@@ -127,7 +126,7 @@ module _ (b : Board) (reload : ℕ) (vcpus tasks : List ℕ) (room : ℕ) (answe
   passed = tested b reload vcpus tasks room answered
 
   pub roomy : vcpuRows vcpus + taskRows tasks ≤ room
-  roomy = tasks-most vcpus tasks room (passed .task-words) .1
+  roomy = tasks-most (vcpuRows vcpus) (length tasks) room (passed .task-words) .1
 
   row : (i : ℕ) → i < vcpuRows vcpus → VcpuRow vcpus i × (domain vcpus i < b .domains)
   row i h = vcpu-row b vcpus tasks i h (passed .vcpu-rows i h)
@@ -142,11 +141,11 @@ module _ (b : Board) (reload : ℕ) (vcpus tasks : List ℕ) (room : ℕ) (answe
       let task : (j : ℕ) → j < taskRows tasks → TaskRow tasks j = λ j h.
       (let set = colour-set (b .colours) _ (not-false _ (board .grants _ (row _ (name j h) .1))) in
       task-row b vcpus tasks j h (passed .task-rows j h) (set .below) (count-range (b .colours) (board .count) .1)) in
-      let most = vcpus-most reload vcpus (passed .vcpu-words) in
+      let most = vcpus-most reload (length vcpus) (passed .vcpu-words) in
       record {
         reload-high = most .0;
         vcpu-rows = record { few = omega (arith, most .1); row = λ i h. row i h .0 };
-        task-rows = record { few = omega (arith, tasks-most vcpus tasks room (passed .task-words) .0); row = task };
+        task-rows = record { few = omega (arith, tasks-most (vcpuRows vcpus) (length tasks) room (passed .task-words) .0); row = task };
         names = name;
         ascending = in-order tasks (passed .order);
       }

@@ -1,6 +1,6 @@
 -- Refusals 15 to 20 as a list of tests in document 01's order. A row is tested for one number before any is tested for the next, and the
 -- lowest at fault is named.
-use Prim.Native.Nat.{ℕ, _+_, _-_, _%_}
+use Prim.Native.Nat.{ℕ, _+_, _-_, _/_, _%_}
 use mathlib.Core.Bool.{Bool, not, _&&_, _||_}
 use mathlib.Core.List.{List, _∷_, _++_}
 use lib.Dec.{eqb, ltb}
@@ -16,14 +16,12 @@ abbrev pub zeroOrAbove : ℕ → ℕ → Bool
 zeroOrAbove limit x = eqb x 0 || ltb limit x
 
 -- 15: L exceeds 10,000, or the VCPU words are none, over 64 or no multiple of 4
-abbrev pub vcpuWordsTest : ℕ → List ℕ → Test
-vcpuWordsTest reload vcpus =
-    test 15 (ltb 10000 reload || (zeroOrAbove 64 (length vcpus) || not (eqb (length vcpus % 4) 0)))
+abbrev pub badVcpuWords : ℕ → ℕ → Bool
+badVcpuWords reload words = ltb 10000 reload || (zeroOrAbove 64 words || not (eqb (words % 4) 0))
 
 -- 16: the task words are none, over 640 or no multiple of 20, or the list of times, of so many words, is shorter than the rows of both kinds
-abbrev pub taskWordsTest : List ℕ → List ℕ → ℕ → Test
-taskWordsTest vcpus tasks room =
-    test 16 (zeroOrAbove 640 (length tasks) || (not (eqb (length tasks % 20) 0) || ltb room (vcpuRows vcpus + taskRows tasks)))
+abbrev pub badTaskWords : ℕ → ℕ → ℕ → Bool
+badTaskWords rows words room = zeroOrAbove 640 words || (not (eqb (words % 20) 0) || ltb room (rows + words / 20))
 
 -- a period outside 1 to 1,000,000, or a time outside 1 to the period
 abbrev pub badTimes : ℕ → ℕ → Bool
@@ -63,7 +61,10 @@ rowTests b vcpus tasks =
     ++ (each (taskRows tasks) 19 (badOrder tasks) ++ each (taskRows tasks) 20 (sharesColour tasks)))
 
 unfoldable pub planTests : Board → ℕ → List ℕ → List ℕ → ℕ → List Test
-planTests b reload vcpus tasks room = vcpuWordsTest reload vcpus ∷ taskWordsTest vcpus tasks room ∷ rowTests b vcpus tasks
+planTests b reload vcpus tasks room =
+    test 15 (badVcpuWords reload (length vcpus))
+    ∷ test 16 (badTaskWords (vcpuRows vcpus) (length tasks) room)
+    ∷ rowTests b vcpus tasks
 
 unfoldable pub planReply : Board → ℕ → List ℕ → List ℕ → ℕ → Reply (Unit {0})
 planReply b reload vcpus tasks room = unless (planTests b reload vcpus tasks room) tt

@@ -8,7 +8,7 @@ ghost use Rattle.lists.specs.Range.{lowest};
 ghost use Rattle.refusal.specs.Reply.{unless};
 ghost use Rattle.board.specs.Paper.{paperChecked};
 ghost use Rattle.rows.specs.Words.{taskRows};
-ghost use Rattle.plan.specs.Tests.{badVcpu, badTask, badOrder, sharesColour, rowTests, planReply};
+ghost use Rattle.plan.specs.Tests.{badVcpuWords, badTaskWords, badVcpu, badTask, badOrder, sharesColour, rowTests, planReply};
 use crate::fields::bad_task;
 use crate::fields::bad_vcpu;
 use crate::fields::bad_order;
@@ -30,16 +30,30 @@ const MOST_TASK_WORDS: usize = 640;
 pub fn check_plan(board: Board, reload: u32, vcpus: &[u32], tasks: &[u32], room: usize) -> Checked
     ensures { λ r. ⌜ paperChecked r ≡ planReply board reload (now (vcpus .entry)) (now (tasks .entry)) room ⌝ }
 {
-    let v = vcpus.len();
-    if (MOST_RELOAD < reload) | ((v == 0) | (MOST_VCPU_WORDS < v) | (v % VCPU_WORDS != 0)) {
+    if bad_vcpu_words(reload, vcpus.len()) {
         return Checked::Refused(Refusal { number: 15, row: 0 });
     }
-    let t = tasks.len();
-    let rows = v / VCPU_WORDS + t / TASK_WORDS;
-    if (t == 0) | (MOST_TASK_WORDS < t) | ((t % TASK_WORDS != 0) | (room < rows)) {
+    if bad_task_words(vcpus.len() / VCPU_WORDS, tasks.len(), room) {
         return Checked::Refused(Refusal { number: 16, row: 0 });
     }
     check_rows(board, vcpus, tasks)
+}
+
+// 15: the reload, or the number of VCPU words.
+fn bad_vcpu_words(reload: u32, words: usize) -> bool
+    ensures { λ r. ⌜ r ≡ badVcpuWords reload words ⌝ }
+{
+    let size = (words == 0) | (MOST_VCPU_WORDS < words);
+    (MOST_RELOAD < reload) | (size | (words % VCPU_WORDS != 0))
+}
+
+// 16: the number of task words, or room for fewer times than VCPU rows and task rows.
+fn bad_task_words(rows: usize, words: usize, room: usize) -> bool
+    requires { ⌜ rows ≤ 16 ⌝ }
+    ensures { λ r. ⌜ r ≡ badTaskWords rows words room ⌝ }
+{
+    let size = (words == 0) | (MOST_TASK_WORDS < words);
+    size | ((words % TASK_WORDS != 0) | (room < rows + words / TASK_WORDS))
 }
 
 fn check_rows(board: Board, vcpus: &[u32], tasks: &[u32]) -> Checked

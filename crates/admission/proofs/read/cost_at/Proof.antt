@@ -21,7 +21,7 @@ task-at-requires-2 c κs = omega (arith, few c)
 
 returns : tie.Need-returns
 unfolding cost
-returns c = cc (c .task-at2 .ensures, c .before .task-at .ensures)
+returns c = rw (c .task-at2 .ensures, c .before .task-at .ensures)
 
 pub cost-at-spec : {M : Type 1} → statement M
 cost-at-spec = tie.close (tie.spec task-at-requires add-task-at task-at-requires-2 returns)
