@@ -117,7 +117,8 @@ pub(crate) fn shares_colour(tasks: &[u32], rows: u32, row: u32) -> bool
     let set = known_word(tasks, row, TASK_SET);
     let mut k = row + 1;
     while k < rows {
-        if known_word(tasks, k, TASK_VCPU) != vcpu && set & known_word(tasks, k, TASK_SET) != 0 {
+        let shared = set & known_word(tasks, k, TASK_SET);
+        if (known_word(tasks, k, TASK_VCPU) != vcpu) & (shared != 0) {
             return true;
         }
         k += 1;
