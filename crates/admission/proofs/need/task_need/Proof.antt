@@ -1,14 +1,13 @@
 -- `admission::need::task_need` meets its contract. The invariant: the sum is the need over the rows passed, which has a bound.
 use Prim.Native.Nat.{ℕ, _+_, _-_, _*_, _≤_}
-use native.Mathlib.Nat.{le-trans, mul-le-mul}
 use native.Mathlib.Omega.{arith}
 use mathlib.Core.Path.{_≡_, sym, ap, ap₂, _∙_}
 use Rattle.rows.specs.Words.{taskPeriod, cost}
 use Rattle.rows.specs.Valid.{TaskRow}
 use Rattle.times.specs.Need.{need}
 use Rattle.times.specs.Times.{charge, taskNeed}
-use Rattle.times.proofs.Needs.{arrivals-le, need-next}
-use Rattle.times.proofs.Bounds.{charge-le, task-need-le}
+use Rattle.times.proofs.Needs.{need-next}
+use Rattle.times.proofs.Bounds.{task-need-le}
 use Rattle.admission.proofs.need.task_need.Statement.{statement}
 use Rattle.admission.proofs.need.task_need.Tie as tie
 
@@ -50,24 +49,25 @@ arrivals-requires c κs =
 charge-requires : tie.Need-charge-requires Inv-loop μ-loop
 charge-requires c κs = let s = entry (c .before .before) in (s .pre .0, s .pre .2, s .pre .3, omega arith)
 
-product-le : (c : tie.After-charge Inv-loop μ-loop) → c .before .arrivals .result * c .charge .result ≤ 1160000000000
-product-le c =
-    let s = entry (turn c) in
-    let many : c .before .arrivals .result ≤ 1000000 = rw (c .before .arrivals .ensures) (le-trans (arrivals-le _ (s .args .t)) (s .pre .1)) in
-    let dear : c .charge .result ≤ 1160000 = rw (c .charge .ensures) (charge-le (s .args .reload) (s .args .part .now) (s .args .i) _ (s .pre .0) (row (turn c))) in
-    mul-le-mul many dear
+-- the sum with one row more, and its bound
+next : (c : tie.After-charge Inv-loop μ-loop) → let a = entry (turn c) .args in let h = turn c .before .loop in
+    h .sum + c .before .arrivals .result * c .charge .result ≡ need (cost (a .part .now) (a .i)) (taskPeriod (a .part .now)) (charge (a .reload) (a .part .now) (a .i)) (h .j + 1) (a .t)
+next c =
+    let h = turn c .before .loop in
+    let term = rw (c .before .before .task-at .ensures) at (c .before .arrivals .ensures) in
+    ap₂ (λ (x y : ℕ). x + y) (h .inv .1) (ap₂ (λ (x y : ℕ). x * y) term (c .charge .ensures)) ∙ sym (need-next _ _ _ (h .j) _)
 
-sum-le : (c : tie.In-loop Inv-loop μ-loop) → c .before .loop .sum ≤ 1000000 + c .before .loop .j * 1160000000000
-sum-le c =
-    let s = entry c in
-    let h = c .before .loop in
-    rw (h .inv .1) (task-need-le (s .args .reload) (s .args .part .now) (s .args .i) (h .j) (s .args .t) (s .pre .0) (s .pre .2) (s .pre .3) (h .inv .0) (s .pre .1))
+next-le : (c : tie.After-charge Inv-loop μ-loop) → turn c .before .loop .sum + c .before .arrivals .result * c .charge .result ≤ 38000000000000
+next-le c =
+    let s = entry (turn c) in
+    let bound = task-need-le (s .args .reload) (s .args .part .now) (s .args .i) (turn c .before .loop .j + 1) (s .args .t) (s .pre .0) (s .pre .2) (s .pre .3) (omega arith) (s .pre .1) in
+    omega (arith, next c, bound, s .pre .2 .few)
 
 mul-sum : tie.Need-mul-sum Inv-loop μ-loop
-mul-sum c = omega (arith, product-le c)
+mul-sum c = omega (arith, next-le c)
 
 add-sum : tie.Need-add-sum Inv-loop μ-loop
-add-sum c = omega (arith, product-le c, sum-le (turn c), entry (turn c) .pre .2 .few)
+add-sum c = omega (arith, next-le c)
 
 add-j : tie.Need-add-j Inv-loop μ-loop
 add-j c = omega arith
@@ -76,14 +76,7 @@ loop-less : tie.Need-loop-less Inv-loop μ-loop
 loop-less c = omega arith
 
 loop-again : tie.Need-loop-again Inv-loop μ-loop
-loop-again c =
-    let a = entry (turn c) .args in
-    let h = turn c .before .loop in
-    let term = rw (c .before .before .task-at .ensures) at (c .before .arrivals .ensures) in (
-      omega arith,
-      ap₂ (λ (x y : ℕ). x + y) (h .inv .1) (ap₂ (λ (x y : ℕ). x * y) term (c .charge .ensures))
-          ∙ sym (need-next (cost (a .part .now) (a .i)) (taskPeriod (a .part .now)) (charge (a .reload) (a .part .now) (a .i)) (h .j) (a .t)),
-    )
+loop-again c = (omega arith, next c)
 
 returns : tie.Need-returns Inv-loop μ-loop
 unfolding taskNeed
