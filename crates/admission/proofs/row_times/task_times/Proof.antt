@@ -67,22 +67,22 @@ returns c =
     timing-late _ _ _ _ (turn (d .before) .before .loop .inv .0) (omega arith) (sym (d .task-time .ensures) ∙ ap paperFound (c .enum-told .given .1))
 
 add-k : tie.Need-add-k Inv-loop μ-loop
-add-k c = search needs
+add-k c = omega arith
 
 cast-k : tie.Need-cast-k Inv-loop μ-loop
-cast-k c = search needs
+cast-k c = omega arith
 
 mul-found : tie.Need-mul-found Inv-loop μ-loop
-mul-found c = search needs
+mul-found c = omega arith
 
 array-write-found : tie.Need-array-write-found Inv-loop μ-loop
-array-write-found c = search needs
+array-write-found c = omega arith
 
 add-j : tie.Need-add-j Inv-loop μ-loop
-add-j c = search needs
+add-j c = omega arith
 
 loop-less : tie.Need-loop-less Inv-loop μ-loop
-loop-less c = search needs
+loop-less c = omega arith
 
 loop-again : tie.Need-loop-again Inv-loop μ-loop
 loop-again c =
