@@ -73,7 +73,7 @@ module _ (b : Board) (x : Live) (ok : Accepted (at b x)) where
       cases (eqb e d)
       (λ q. sym (eqb-true e d q))
       (λ q.
-      let none = any-none (λ (y : ℕ). not (eqb y d) && shares (grant b d) (grant b y)) (b .domains) e (passed .shared d hd) he in
+      let none = any-none _ (b .domains) e (passed .shared d hd) he in
       let zero = eqb-true _ _ (not-false (eqb (bitAnd (grant b d) (grant b e)) 0) (rw q at none)) in
       absurd (apart-has (grant b d) (grant b e) c zero kd ke))
 

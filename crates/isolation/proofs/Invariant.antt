@@ -126,10 +126,13 @@ module _ {b : Board} {t₀ : List ℕ} {x : Live} (inv : Inv b t₀ x) where
     cleared-fresh f m w q (reserved r) = absurd (m .open-to (inv .reserved f (m .below) .0 (q ∙ r)))
     cleared-fresh f m w q (held k) =
         let mine = held-own below (m .own) k in
-        inr (mine, λ g h.
-        after-write (λ (v : ℕ). v ≡ w → ⊥) (x .table) f 0 g (rw (known .long) (m .below))
-        (λ _ z. omega arith)
-        (λ other r. other (inv .unique e (mine .page) g f below (mine .small) h (m .below) (r ∙ mine .is) (q ∙ mine .is))))
+        inr (
+          mine,
+          λ g h.
+              after-write (λ (v : ℕ). v ≡ w → ⊥) (x .table) f 0 g (rw (known .long) (m .below))
+              (λ _ z. omega arith)
+              (λ other r. other (inv .unique e (mine .page) g f below (mine .small) h (m .below) (r ∙ mine .is) (q ∙ mine .is))),
+        )
 
   -- another active set that refusal 9 does not refuse keeps it
   pub recoloured : (e c : ℕ) → e < b .domains → emptyOrOutside (grant b e) c ≡ false → Inv b t₀ (withSet x e c)

@@ -128,9 +128,9 @@ pub domain-rule : DomainRule
 domain-rule P start ok empty d below h k =
     let g = start-good start ok empty in
     let self : Related (start .board) (start .table) d start start =
-        record { left-good = g; right-good = g; agree = agree-self start } in
+    record { left-good = g; right-good = g; agree = agree-self start } in
     let unwound =
-        rule step (told P) (names-it d) Same (Related (start .board) (start .table) d) (own-step P below) (other-step P below)
-        (Shows d) join left (reveal P below) (shown P below) start self h k in
+    rule step (told P) (names-it d) Same (Related (start .board) (start .table) d) (own-step P below) (other-step P below)
+    (Shows d) join left (reveal P below) (shown P below) start self h k in
     let r = simp (run-is, own-is, heard-is) at unwound in
     (λ same. r .0 (λ l m e. rw all-is (same l m (cc))), λ w l m e. rw all-is at (r .1 w l m (cc)))

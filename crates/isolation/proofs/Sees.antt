@@ -48,92 +48,95 @@ module _ (b : Board) (t₀ : List ℕ) (d : ℕ) where
   same-pairs t u (v ∷ vs) [] mine same = refl
   same-pairs t u (v ∷ vs) (g ∷ gs) mine same = rw (same v (mine .0 .below) (mine .0 .own), same-pairs t u vs gs (mine .1) same)
 
-  module _ {x y : Live} (inv : Inv b t₀ x) (inv′ : Inv b t₀ y) (sees : Agree b d (at b x) (at b y)) where
-    abbrev Both : Reply Done → Reply Done → Type 0
-    Both o q = Meet (Agree b d) (settle (at b x) o) (settle (at b y) q)
+module _ {b : Board} {t₀ : List ℕ} {d : ℕ} {x y : Live} (inv : Inv b t₀ x) (inv′ : Inv b t₀ y) (sees : Agree b d (at b x) (at b y)) where
+  abbrev Both : Reply Done → Reply Done → Type 0
+  Both o q = Meet (Agree b d) (settle (at b x) o) (settle (at b y) q)
 
-    -- a call under its tests, of which the first are the same on both sides
-    under : (first us us′ : List Test) (o q : Done) → (d < b .domains → passes first ≡ true → Both (unless us o) (unless us′ q))
-        → Meet (Agree b d) (called (at b x) d (first ++ us) o) (called (at b y) d (first ++ us′) q)
-    under = called-two (Agree b d) b x y sees (inv .accepted) (inv′ .accepted) d
+  -- a call under its tests, of which the first are the same on both sides
+  under : (first us us′ : List Test) (o q : Done) → (d < b .domains → passes first ≡ true → Both (unless us o) (unless us′ q))
+      → Meet (Agree b d) (called (at b x) d (first ++ us) o) (called (at b y) d (first ++ us′) q)
+  under = called-two (Agree b d) b x y sees (inv .accepted) (inv′ .accepted) d
 
-    pub look-meets : (p : ℕ) → Meet (Agree b d) (look (at b x) d p) (look (at b y) d p)
-    unfolding look unless
-    look-meets p =
-        under (pageTest p ∷ []) _ _ _ _ (λ below ok.
-        answered (Agree b d) sees (ap lookAnswer (same-mapped inv inv′ below (sees .words) p (small-page p [] ok .0))) refl sees)
+  pub look-meets : (p : ℕ) → Meet (Agree b d) (look (at b x) d p) (look (at b y) d p)
+  unfolding look unless
+  look-meets p =
+      under (pageTest p ∷ []) _ _ _ _ (λ below ok.
+      answered (Agree b d) sees (ap lookAnswer (same-mapped inv inv′ below (sees .words) p (small-page p [] ok .0))) refl sees)
 
-    pub colours-meets : Meet (Agree b d) (colours (at b x) d) (colours (at b y) d)
-    unfolding colours unless
-    colours-meets = under [] _ _ _ _ (λ below ok. answered (Agree b d) sees (ap Active (sees .active)) refl sees)
+  pub colours-meets : Meet (Agree b d) (colours (at b x) d) (colours (at b y) d)
+  unfolding colours unless
+  colours-meets = under [] _ _ _ _ (λ below ok. answered (Agree b d) sees (ap Active (sees .active)) refl sees)
 
-    same-free : d < b .domains → choices (at b x) d (setOf x d) ≡ choices (at b y) d (setOf y d)
-    same-free below = rw (← (sees .active)) (same-choices inv inv′ below (sees .words) (setOf x d) (known inv .inside d below))
+  same-free : d < b .domains → choices (at b x) d (setOf x d) ≡ choices (at b y) d (setOf y d)
+  same-free below = rw (← (sees .active)) (same-choices inv inv′ below (sees .words) (setOf x d) (known inv .inside d below))
 
-    wrote : (f w : ℕ) → Mine b t₀ d f → Agree b d (written (at b x) f w) (written (at b y) f w)
-    wrote f w mine =
-        record {
-          active = sees .active;
-          words =
-              same-write (x .table) (y .table) f w (rw (known inv .long) (mine .below)) (rw (known inv′ .long) (mine .below)) (sees .words);
-        }
+  wrote : (f w : ℕ) → Mine b t₀ d f → Agree b d (written (at b x) f w) (written (at b y) f w)
+  wrote f w mine =
+      record {
+        active = sees .active;
+        words =
+            same-write b t₀ d (x .table) (y .table) f w (rw (known inv .long) (mine .below)) (rw (known inv′ .long) (mine .below)) (sees .words);
+      }
 
-    fault-done : (w : ℕ) (ms gs : List ℕ) → Each (Mine b t₀ d) gs → (isEmpty ms && isEmpty gs) ≡ false
-        → Both (Answers (faultDone (at b x) w ms gs)) (Answers (faultDone (at b y) w ms gs))
-    fault-done w (f ∷ ms) gs mine some = answered (Agree b d) sees refl refl sees
-    fault-done w [] [] mine some = absurd (true≢false some)
-    fault-done w [] (g ∷ gs) mine some = answered (Agree b d) sees refl refl (wrote g w (mine .0))
+  fault-done : (w : ℕ) (ms gs : List ℕ) → Each (Mine b t₀ d) gs → (isEmpty ms && isEmpty gs) ≡ false
+      → Both (Answers (faultDone (at b x) w ms gs)) (Answers (faultDone (at b y) w ms gs))
+  fault-done w (f ∷ ms) gs mine some = answered (Agree b d) sees refl refl sees
+  fault-done w [] [] mine some = absurd (true≢false some)
+  fault-done w [] (g ∷ gs) mine some = answered (Agree b d) sees refl refl (wrote g w (mine .0))
 
-    pub fault-meets : (p : ℕ) → Meet (Agree b d) (fault (at b x) d p) (fault (at b y) d p)
-    unfolding fault
-    fault-meets p =
-        under (pageTest p ∷ []) _ _ _ _ (λ below ok.
-        rw (← (same-mapped inv inv′ below (sees .words) p (small-page p [] ok .0)), ← (same-free below))
-        (unless-two (Agree b d) sees _ _ _ (λ some.
-        fault-done (wordOf d p) (mappedTo (at b x) d p) (choices (at b x) d (setOf x d))
-        (choices-mine inv below (setOf x d) (known inv .inside d below)) (passed-first _ _ some .0))))
+  pub fault-meets : (p : ℕ) → Meet (Agree b d) (fault (at b x) d p) (fault (at b y) d p)
+  unfolding fault
+  fault-meets p =
+      under (pageTest p ∷ []) _ _ _ _ (λ below ok.
+      rw (← (same-mapped inv inv′ below (sees .words) p (small-page p [] ok .0)), ← (same-free below))
+      (unless-two (Agree b d) sees _ _ _ (λ some.
+      fault-done (wordOf d p) (mappedTo (at b x) d p) (choices (at b x) d (setOf x d))
+      (choices-mine inv below (setOf x d) (known inv .inside d below)) (passed-first _ _ some .0))))
 
-    release-done : (ms : List ℕ) → Each (Mine b t₀ d) ms → isEmpty ms ≡ false
-        → Both (Answers (record { answer = Freed (headOr 0 ms); moves = []; next = written (at b x) (headOr 0 ms) 0 }))
-        (Answers (record { answer = Freed (headOr 0 ms); moves = []; next = written (at b y) (headOr 0 ms) 0 }))
-    release-done [] mine some = absurd (true≢false some)
-    release-done (f ∷ ms) mine some = answered (Agree b d) sees refl refl (wrote f 0 (mine .0))
+  release-done : (ms : List ℕ) → Each (Mine b t₀ d) ms → isEmpty ms ≡ false
+      → Both (Answers (record { answer = Freed (headOr 0 ms); moves = []; next = written (at b x) (headOr 0 ms) 0 }))
+      (Answers (record { answer = Freed (headOr 0 ms); moves = []; next = written (at b y) (headOr 0 ms) 0 }))
+  release-done [] mine some = absurd (true≢false some)
+  release-done (f ∷ ms) mine some = answered (Agree b d) sees refl refl (wrote f 0 (mine .0))
 
-    pub release-meets : (p : ℕ) → Meet (Agree b d) (release (at b x) d p) (release (at b y) d p)
-    unfolding release
-    release-meets p =
-        under (pageTest p ∷ []) _ _ _ _ (λ below ok.
-        let small = small-page p [] ok .0 in
-        rw (← (same-mapped inv inv′ below (sees .words) p small))
-        (unless-two (Agree b d) sees _ _ _ (λ some.
-        release-done (mappedTo (at b x) d p) (mapped-mine inv below p small) (passed-first _ _ some .0))))
+  pub release-meets : (p : ℕ) → Meet (Agree b d) (release (at b x) d p) (release (at b y) d p)
+  unfolding release
+  release-meets p =
+      under (pageTest p ∷ []) _ _ _ _ (λ below ok.
+      let small = small-page p [] ok .0 in
+      rw (← (same-mapped inv inv′ below (sees .words) p small))
+      (unless-two (Agree b d) sees _ _ _ (λ some.
+      release-done (mappedTo (at b x) d p) (mapped-mine inv below p small) (passed-first _ _ some .0))))
 
-    recolour-done : d < b .domains → (c : ℕ) (ms : List Move) → MovesMine b t₀ d ms
-        → Agree b d (at b (withSet (withTable x (moveAll (x .table) ms)) d c)) (at b (withSet (withTable y (moveAll (y .table) ms)) d c))
-    recolour-done below c ms mine =
-        record {
-          active = getD-set-same (x .active) d c 0 (known inv .placed d below) ∙ sym (getD-set-same (y .active) d c 0 (known inv′ .placed d below));
-          words = same-moves ms (x .table) (y .table) (known inv .long) (known inv′ .long) mine (sees .words);
-        }
+  recolour-done : d < b .domains → (c : ℕ) (ms : List Move) → MovesMine b t₀ d ms
+      → Agree b d (at b (withSet (withTable x (moveAll (x .table) ms)) d c)) (at b (withSet (withTable y (moveAll (y .table) ms)) d c))
+  recolour-done below c ms mine =
+      record {
+        active = getD-set-same (x .active) d c 0 (known inv .placed d below) ∙ sym (getD-set-same (y .active) d c 0 (known inv′ .placed d below));
+        words = same-moves b t₀ d ms (x .table) (y .table) (known inv .long) (known inv′ .long) mine (sees .words);
+      }
 
-    pub recolour-meets : (c : ℕ) (lent : List ℕ) → Meet (Agree b d) (recolour (at b x) d c lent) (recolour (at b y) d c lent)
-    unfolding recolour
-    recolour-meets c lent =
-        let vs = strays (at b x) d c in
-        let gs = choices (at b x) d c in
-        under (test 9 (emptyOrOutside (grant b d) c) ∷ []) _ _ _ _ (λ below ok.
-        let inside = set-inside b d c (passed-first _ _ ok .0) in
-        let stray = strays-mine inv below c in
-        rw (← (same-strays inv inv′ below (sees .words) c), ← (same-choices inv inv′ below (sees .words) c inside))
-        (rw (← (same-pairs (x .table) (y .table) vs gs stray (sees .words)))
-        (unless-two (Agree b d) sees _ _ _ (λ some.
-        answered (Agree b d) sees refl refl
-        (recolour-done below c (pairUp d (x .table) vs gs) (pairs-mine b t₀ d (x .table) vs gs stray (choices-mine inv below c inside)))))))
+  pub recolour-meets : (c : ℕ) (lent : List ℕ) → Meet (Agree b d) (recolour (at b x) d c lent) (recolour (at b y) d c lent)
+  unfolding recolour
+  recolour-meets c lent =
+      let vs = strays (at b x) d c in
+      let gs = choices (at b x) d c in
+      under (test 9 (emptyOrOutside (grant b d) c) ∷ []) _ _ _ _ (λ below ok.
+      let inside = set-inside b d c (passed-first _ _ ok .0) in
+      let stray = strays-mine inv below c in
+      rw (
+        ← (same-strays inv inv′ below (sees .words) c),
+        ← (same-choices inv inv′ below (sees .words) c inside),
+        ← (same-pairs b t₀ d (x .table) (y .table) vs gs stray (sees .words)),
+      )
+      (unless-two (Agree b d) sees _ _ _ (λ some.
+      answered (Agree b d) sees refl refl
+      (recolour-done below c (pairUp d (x .table) vs gs) (pairs-mine b t₀ d (x .table) vs gs stray (choices-mine inv below c inside))))))
 
 pub call-meets : {b : Board} {t₀ : List ℕ} {d : ℕ} {s r : State} → Good b t₀ s → Good b t₀ r → Agree b d s r → (c : Call) → names c ≡ d
     → Meet (Agree b d) (outcome s c) (outcome r c)
-call-meets {b} {t₀} {d} (good inv) (good inv′) sees (Look e p) q = rw q (look-meets b t₀ d inv inv′ sees p)
-call-meets {b} {t₀} {d} (good inv) (good inv′) sees (Fault e p) q = rw q (fault-meets b t₀ d inv inv′ sees p)
-call-meets {b} {t₀} {d} (good inv) (good inv′) sees (Release e p) q = rw q (release-meets b t₀ d inv inv′ sees p)
-call-meets {b} {t₀} {d} (good inv) (good inv′) sees (Colours e) q = rw q (colours-meets b t₀ d inv inv′ sees)
-call-meets {b} {t₀} {d} (good inv) (good inv′) sees (Recolour e c lent) q = rw q (recolour-meets b t₀ d inv inv′ sees c lent)
+call-meets (good inv) (good inv′) sees (Look e p) q = rw q (look-meets inv inv′ sees p)
+call-meets (good inv) (good inv′) sees (Fault e p) q = rw q (fault-meets inv inv′ sees p)
+call-meets (good inv) (good inv′) sees (Release e p) q = rw q (release-meets inv inv′ sees p)
+call-meets (good inv) (good inv′) sees (Colours e) q = rw q (colours-meets inv inv′ sees)
+call-meets (good inv) (good inv′) sees (Recolour e c lent) q = rw q (recolour-meets inv inv′ sees c lent)
