@@ -1,7 +1,7 @@
 -- The part of a state that calls change, and what an accepted board has: its table's length and its domain count, grants that share no
 -- colour, active sets inside their grants. And which other active sets leave it accepted.
 use Prim.Native.Nat.{ℕ, _<_, _≤_}
-use mathlib.Core.Bool.{true, false, not, _&&_}
+use mathlib.Core.Bool.{true, false}
 use mathlib.Core.List.{List}
 use mathlib.Core.Path.{_≡_, sym}
 use lib.Bits.{bitAnd}
@@ -15,7 +15,7 @@ use Rattle.colours.specs.Sets.{has}
 use Rattle.colours.proofs.Ranges.{count-range}
 use Rattle.colours.proofs.Common.{inside-has, apart-has}
 use Rattle.board.specs.declared.Board.{Board}
-use Rattle.board.specs.Tests.{grant, shares, sharesWithAnother, emptyOrOutside, badActive}
+use Rattle.board.specs.Tests.{grant, emptyOrOutside}
 use Rattle.board.proofs.Passed.{Passed, split, join, sized}
 use Rattle.calls.specs.Table.{State, stateOf}
 use Rattle.isolation.specs.DomainRule.{Accepted}

@@ -14,7 +14,7 @@ use Rattle.calls.specs.Calls.{Mapped, Active, settle, lookAnswer, look, colours
 use Rattle.isolation.specs.DomainRule.{SameColours, SameMap}
 use Rattle.isolation.proofs.AcceptedBoard.{Live, at, setOf}
 use Rattle.isolation.proofs.TestLists.{called-accepted}
-use Rattle.isolation.proofs.Invariant.{PageWord, granted, Lawful, free, reserved, held, Inv, Good, good, held-own}
+use Rattle.isolation.proofs.Invariant.{PageWord, Lawful, free, reserved, held, Inv, Good, good, held-own}
 use Rattle.isolation.proofs.Agree.{SameWords, Agree}
 use Rattle.isolation.proofs.Found.{mapped, unmapped}
 

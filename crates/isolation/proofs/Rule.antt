@@ -10,7 +10,8 @@ use lib.Dec.{eqb}
 use borrow.Author.Tests.{eqb-true, eqb-false, eq-eqb}
 use Rattle.board.specs.declared.Board.{Board}
 use Rattle.calls.specs.Table.{State, word}
-use Rattle.isolation.specs.DomainRule.{Call, Look, Colours, names, outcome, run, own, Program, Told, told, Same, AllSame, answers, SameColours, SameMap, Accepted, Empty, DomainRule}
+use Rattle.isolation.specs.DomainRule.{Call, Look, Colours, names, outcome, run, own, Program, Told, told, Same, AllSame, answers}
+use Rattle.isolation.specs.DomainRule.{SameColours, SameMap, Accepted, Empty, DomainRule}
 use Rattle.isolation.proofs.Unwinding.{runs, owns, heard, All₂, rule}
 use Rattle.isolation.proofs.AcceptedBoard.{live, facts}
 use Rattle.isolation.proofs.Invariant.{free, reserved, Good, good}

@@ -1,10 +1,9 @@
 -- A domain's own calls go by what it sees. Two states that agree there give the same reply and the same moves, and agree again afterwards.
-use Prim.Native.Nat.{ℕ, _*_, _<_, _≤_}
+use Prim.Native.Nat.{ℕ, _<_}
 use mathlib.Core.Bool.{true, false, _&&_, true≢false}
 use mathlib.Core.List.{List, [], _∷_, _++_}
 use mathlib.Core.Path.{_≡_, refl, sym, ap, _∙_}
-use lib.Dec.{ltb}
-use lib.ListN.{length, getD, set, length-set}
+use lib.ListN.{length, set, length-set}
 use lib.Seq.{getD-set-same, getD-set-other}
 use Rattle.lists.specs.Range.{headOr, isEmpty}
 use Rattle.lists.proofs.Members.{Each}
@@ -13,7 +12,8 @@ use Rattle.refusal.proofs.Replies.{passed-first}
 use Rattle.board.specs.declared.Board.{Board}
 use Rattle.board.specs.Tests.{grant, emptyOrOutside}
 use Rattle.calls.specs.Table.{State, word, wordOf, mappedTo, choices, strays}
-use Rattle.calls.specs.Calls.{Freed, Active, Moved, Move, Done, settle, called, only, written, pageTest, lookAnswer, look, faultDone, fault, release, colours, pairUp, move, moveAll, recolour}
+use Rattle.calls.specs.Calls.{Freed, Active, Move, Done, settle, called, written, pageTest, lookAnswer, faultDone, pairUp, move, moveAll}
+use Rattle.calls.specs.Calls.{look, fault, release, colours, recolour}
 use Rattle.isolation.specs.DomainRule.{Call, Look, Fault, Release, Colours, Recolour, names, outcome}
 use Rattle.isolation.proofs.AcceptedBoard.{Live, at, withTable, withSet, setOf, set-inside}
 use Rattle.isolation.proofs.TestLists.{Meet, answered, unless-two, called-two, small-page}
