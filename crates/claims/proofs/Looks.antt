@@ -11,7 +11,7 @@ use Rattle.lists.specs.Range.{from, keep}
 use Rattle.refusal.specs.Reply.{Reply, each, unless, passes}
 use Rattle.colours.specs.Sets.{isColourSet, has}
 use Rattle.colours.specs.Cache.{isColourCount}
-use Rattle.board.specs.Tests.{sizeTests, domainTests, boardTests}
+use Rattle.board.specs.Tests.{domainTests, boardTests, callTests}
 use Rattle.calls.specs.Table.{framesWith, mappedTo, isChoice, choices, strays}
 use Rattle.calls.specs.Calls.{Answer, settle, called, look, fault, release, colours, pairUp, moveAll, recolour}
 use Rattle.isolation.specs.DomainRule.{Call, run, own, Program, Accepted, Empty}
@@ -25,7 +25,7 @@ in-order : Program
 in-order = record { arrange = λ s c ms. ms; each-once = λ s c ms. Permᴰ·refl ms }
 
 accepted : Accepted recorder
-unfolding from keep each passes isColourSet has isColourCount sizeTests domainTests boardTests
+unfolding from keep each passes isColourSet has isColourCount domainTests boardTests
 accepted = refl
 
 empty : Empty recorder
@@ -35,14 +35,15 @@ empty f h = inl (getD-replicate 8 f 0 0 h)
 says : List ℕ → Reply Answer → Bool
 says ns r = sameList ns (numbers r)
 
--- what the replays leave, by computation: page 9 is not unmapped, and the set is not 3; looking up a page of an empty map goes by the page alone, and the two replays that agree leave
--- one state
+-- what the replays leave, by computation: page 9 is not unmapped, and the set is not 3; looking up a page of an empty map goes by the
+-- page alone, and the two replays that agree leave one state
 replays :
     (MapsAlike faulted nothing → ⊥) × ColoursAlike faulted nothing
     × (ColoursAlike recoloured nothing → ⊥) × MapsAlike recoloured nothing
     × (run recorder (own 0 straight) ≡ run recorder (own 0 roundabout))
 unfolding
-    from keep unless each isColourSet has isColourCount sizeTests domainTests boardTests framesWith mappedTo isChoice choices strays settle called look fault release colours pairUp moveAll recolour run own says sameList numbers
+    from keep unless each isColourSet has isColourCount domainTests boardTests callTests framesWith mappedTo isChoice choices strays
+    settle called look fault release colours pairUp moveAll recolour run own says sameList numbers
 replays = (
   λ same. false≢true (ap (says (2 ∷ [])) (same 9 (omega arith))),
   refl,

@@ -48,7 +48,9 @@ history-claims =
       one-frame-a-page = history.one-frame-a-page;
       held-in-grant = history.held-in-grant;
       no-shared-cache-set = history.no-shared-cache-set;
-      chosen-is-free = λ s c f e. let r = member-has (Chosen s c) f (choices s c) (chosen s c) e in (r .below, r .free, r .inside);
+      chosen-is-free = λ s d c f e.
+          let r = member-has (Chosen s c) f (choices s d c) (chosen s d c) e in
+          (r .below, r .free, r .inside);
       choice-local = choice-local;
     }
 

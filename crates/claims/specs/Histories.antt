@@ -35,11 +35,12 @@ pub record HistoryClaims : Type 0 where
       → pageOf x < start .board .frames → pageOf y < start .board .frames
       → isOf d (word (run start h .table) (pageOf x)) ≡ true → isOf e (word (run start h .table) (pageOf y)) ≡ true
       → cacheSet (start .board .colours) x ≡ cacheSet (start .board .colours) y → d ≡ e
-  -- Of any board and table: each frame chosen for a set is free and has a colour of the set, and the choice depends on the frames with a
-  -- colour of the set alone.
+  -- Of any board and table: each frame chosen by a domain for a set is free and has a colour of the set, and the choice depends on the
+  -- frames with a colour of the set alone.
   pub chosen-is-free :
-      (s : State) (c f : ℕ) → any (eqb f) (choices s c) ≡ true
-      → (f < s .board .frames) × (word (s .table) f ≡ 0) × (inSet (s .board) c f ≡ true)
+      (s : State) (d c f : ℕ) → any (eqb f) (choices s d c) ≡ true
+      → (f < s .board .frames) × (word (s .table) f ≡ 0) × (inSet (s .board .colours) c f ≡ true)
   pub choice-local :
-      (s r : State) (c : ℕ) → s .board .frames ≡ r .board .frames → s .board .colours ≡ r .board .colours
-      → ((f : ℕ) → f < s .board .frames → inSet (s .board) c f ≡ true → word (s .table) f ≡ word (r .table) f) → choices s c ≡ choices r c
+      (s r : State) (d c : ℕ) → s .board .frames ≡ r .board .frames → s .board .colours ≡ r .board .colours
+      → ((f : ℕ) → f < s .board .frames → inSet (s .board .colours) c f ≡ true → word (s .table) f ≡ word (r .table) f)
+      → choices s d c ≡ choices r d c

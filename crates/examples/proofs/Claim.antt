@@ -2,9 +2,9 @@
 use mathlib.Core.Bool.{true}
 use mathlib.Core.Path.{_≡_, refl}
 use lib.Count.{ones, onesIn}
-use Rattle.lists.specs.Range.{from, keep, lowest, lowestFrom}
+use Rattle.lists.specs.Range.{from, keep, lowestFrom}
 use Rattle.refusal.specs.Reply.{each, unless}
-use Rattle.board.specs.Tests.{sizeTests, domainTests, boardTests}
+use Rattle.board.specs.Tests.{domainTests, boardTests, callTests}
 use Rattle.calls.specs.Table.{framesWith, mappedTo, isChoice, choices, strays}
 use Rattle.calls.specs.Calls.{settle, called, look, fault, release, colours, pairUp, moveAll, recolour}
 use Rattle.calls.specs.Moves.{triples}
@@ -25,5 +25,11 @@ use Rattle.examples.specs.Table.{examples}
 
 pub claim : allHold examples ≡ true
 unfolding
-    ones onesIn from keep unless isColourSet has coloursBelow colourAt placeOf isColourCount cacheReply layoutPage layoutReply bleachIndex bleachReply dropBits equationOne each sizeTests domainTests boardTests framesWith mappedTo isChoice choices strays settle called look fault release colours pairUp moveAll recolour triples run lowest lowestFrom supply cost colours-shared partStart partEnd rowsFrom partOf rowTests planTests firstFrom firstTime arrivals need charge taskNeed timeInPart taskTime vcpuCharge vcpuNeed vcpuTime timeTests admissionReply sameReply sameList numbers timeNumbers admissionNumbers holds allHold examples
+    ones onesIn from keep each unless lowestFrom
+    isColourSet has coloursBelow colourAt placeOf isColourCount cacheReply layoutPage layoutReply bleachIndex bleachReply dropBits equationOne
+    domainTests boardTests callTests framesWith mappedTo isChoice choices strays
+    settle called look fault release colours pairUp moveAll recolour triples run
+    supply cost colours-shared partStart partEnd rowsFrom partOf rowTests planTests
+    firstFrom firstTime arrivals need charge taskNeed timeInPart taskTime vcpuCharge vcpuNeed vcpuTime timeTests admissionReply
+    sameReply sameList numbers timeNumbers admissionNumbers holds allHold examples
 claim = refl

@@ -1,120 +1,117 @@
--- The three searches of the calls: what they find a domain may write, and two tables with the same words in the domain's frames give the
--- same. It knows no call.
+-- The searches of the calls: what they find a domain may write, and two tables with the same words in the domain's frames give the same.
+-- It knows no call.
 use Prim.Native.Nat.{ℕ, _-_, _%_, _<_, _≤_}
-use native.Mathlib.Nat.{lt-irrefl}
 use native.Mathlib.Omega.{arith}
-use mathlib.Core.Bool.{true, false, not, _&&_, true≢false}
-use mathlib.Core.List.{List}
-use mathlib.Core.Logic.{⊎-elim}
-use mathlib.Core.Path.{_≡_, refl, sym, ap, _∙_}
-use lib.Dec.{eqb, leb}
-use lib.ListN.{length}
-use borrow.Author.Tests.{eqb-true, leb-true}
+use mathlib.Core.Bool.{Bool, true, false, true≢false}
+use mathlib.Core.List.{List, []}
+use mathlib.Core.Path.{_≡_, refl, sym, _∙_}
+use lib.Dec.{leb}
+use borrow.Author.Tests.{eqb-true, eqb-false, leb-true}
 use Rattle.lists.proofs.Split.{cases, and-both}
 use Rattle.lists.proofs.Members.{Each}
-use Rattle.lists.proofs.Filter.{each-map, kept, same-kept}
-use Rattle.colours.specs.Sets.{has}
+use Rattle.lists.proofs.Filter.{each-map, kept, kept-none, same-kept}
 use Rattle.board.specs.declared.Board.{Board}
-use Rattle.board.specs.Tests.{grant}
-use Rattle.calls.specs.Table.{State, stateOf, word, wordOf, isOf, inSet, framesWith, mappedTo, choices, strays}
+use Rattle.calls.specs.Table.{word, wordOf, isOf, hasWord, isStray, framesWith, mappedTo, choices, strays}
 use Rattle.calls.proofs.Choice.{Chosen, chosen, choice-local}
-use Rattle.isolation.proofs.Accepted.{over, facts}
-use Rattle.isolation.proofs.Invariant.{granted, Inv, Mine}
+use Rattle.isolation.proofs.AcceptedBoard.{Live, at, Inside}
+use Rattle.isolation.proofs.Invariant.{PageWord, granted, Lawful, free, reserved, held, Inv, Mine, not-reserved}
+use Rattle.isolation.proofs.Agree.{SameWords}
 
--- a set lies inside the grant of domain e
-abbrev pub Inside : Board → ℕ → ℕ → Type 0
-Inside b e c = (x : ℕ) → has c x ≡ true → has (grant b e) x ≡ true
+-- a word that is one of e's, by its page
+pub word-page : (e w : ℕ) → isOf e w ≡ true → PageWord e w
+word-page e w h =
+    let r = and-both (leb (wordOf e 0) w) (leb w (wordOf e 4095)) h in
+    let low = leb-true (wordOf e 0) w (r .0) in
+    let high = leb-true w (wordOf e 4095) (r .1) in
+    record { page = w - wordOf e 0; small = omega arith; is = omega arith }
 
-module _ (b : Board) (t₀ : List ℕ) where
-  abbrev pub at : List ℕ → List ℕ → State
-  at a t = stateOf (over b a) t
+-- a test of a frame, on a table, that goes by its word and that only a word of e passes
+pub record OwnTest (e : ℕ) (test : List ℕ → ℕ → Bool) : Type 0 where
+  pub by-word : (t u : List ℕ) (f : ℕ) → word t f ≡ word u f → test t f ≡ test u f
+  pub only : (t : List ℕ) (f : ℕ) → test t f ≡ true → PageWord e (word t f)
 
-  module _ {a t : List ℕ} (inv : Inv b t₀ a t) {e : ℕ} (below : e < b .domains) where
-    few : b .domains ≤ 8
-    few = facts b a (length t) (inv .accepted) .few
+has-word : (e p : ℕ) → p ≤ 4095 → OwnTest e (λ t. hasWord t (wordOf e p))
+has-word e p small =
+    record {
+      by-word = λ t u f q. rw q;
+      only = λ t f h. record { page = p; small = small; is = eqb-true (word t f) (wordOf e p) h };
+    }
 
-    -- a frame with a word of e
-    pub own-frame : (x p : ℕ) → x < b .frames → p ≤ 4095 → word t x ≡ wordOf e p → Mine b t₀ e x
-    own-frame x p h small q =
-        record {
-          below = h;
-          own =
-              ⊎-elim (λ z. absurd (lt-irrefl 0 (omega arith)))
-              (⊎-elim (λ z. absurd (lt-irrefl 0 (omega (arith, few))))
-              (λ k. let same : k .domain ≡ e = omega (arith, k .small, k .is) in rw (← same) (k .own)))
-              (inv .lawful x h);
-          open-to = λ z. let r = inv .reserved x h .1 z in lt-irrefl 0 (omega (arith, few));
-        }
+is-stray : (n e c : ℕ) → OwnTest e (λ t. isStray t n e c)
+is-stray n e c =
+    record { by-word = λ t u f q. rw q; only = λ t f h. word-page e (word t f) (and-both (isOf e (word t f)) _ h .0) }
 
-    -- a free frame with a granted colour
-    free-frame : (x : ℕ) → x < b .frames → word t x ≡ 0 → granted b t₀ e x ≡ true → Mine b t₀ e x
-    free-frame x h q g = record { below = h; own = g; open-to = λ z. let r = inv .reserved x h .1 z in lt-irrefl 0 (omega arith) }
+module _ {b : Board} {t₀ : List ℕ} {x : Live} (inv : Inv b t₀ x) {e : ℕ} (below : e < b .domains) where
+  -- a frame with a word of e
+  pub own-frame : (f : ℕ) → f < b .frames → PageWord e (word (x .table) f) → Mine b t₀ e f
+  own-frame f h k =
+      record { below = h; own = in-grant (inv .lawful f h); open-to = λ z. not-reserved inv below k (inv .reserved f h .1 z) }
+    where
+      in-grant : Lawful b f (word (x .table) f) → granted b e f ≡ true
+      in-grant (free z) = absurd (omega arith)
+      in-grant (reserved r) = absurd (not-reserved inv below k r)
+      in-grant (held o) = let same : o .domain ≡ e = omega arith in rw (← same) (o .own)
 
-    -- a word that is one of e's, by its page
-    pub word-page : (w : ℕ) → isOf e w ≡ true → (w - wordOf e 0 ≤ 4095) × (w ≡ wordOf e (w - wordOf e 0))
-    word-page w h =
-        let r = and-both (leb (wordOf e 0) w) (leb w (wordOf e 4095)) h in
-        let low = leb-true (wordOf e 0) w (r .0) in
-        let high = leb-true w (wordOf e 4095) (r .1) in
-        (omega arith, omega arith)
+  -- a free frame with a granted colour
+  free-frame : (f : ℕ) → f < b .frames → word (x .table) f ≡ 0 → granted b e f ≡ true → Mine b t₀ e f
+  free-frame f h q g = record { below = h; own = g; open-to = λ z. omega (arith, inv .reserved f h .1 z) }
 
-    pub mapped-mine : (p : ℕ) → p ≤ 4095 → Each (Mine b t₀ e) (mappedTo (at a t) e p)
-    unfolding mappedTo framesWith
-    mapped-mine p small =
-        each-map (λ (x : ℕ). (x < b .frames) × (eqb (word t x) (wordOf e p) ≡ true)) (Mine b t₀ e)
-        (λ x r. own-frame x p (r .0) small (eqb-true (word t x) (wordOf e p) (r .1)))
-        (mappedTo (at a t) e p) (kept (λ (x : ℕ). eqb (word t x) (wordOf e p)) (b .frames))
+  pub choices-mine : (c : ℕ) → Inside b e c → Each (Mine b t₀ e) (choices (at b x) e c)
+  choices-mine c inside =
+      each-map (Chosen (at b x) c) (Mine b t₀ e) (λ f k. free-frame f (k .below) (k .free) (inside (f % b .colours) (k .inside)))
+      (choices (at b x) e c) (chosen (at b x) e c)
 
-    pub choices-mine : (c : ℕ) → Inside b e c → Each (Mine b t₀ e) (choices (at a t) c)
-    choices-mine c inside =
-        each-map (Chosen (at a t) c) (Mine b t₀ e) (λ x k. free-frame x (k .below) (k .free) (inside (x % b .colours) (k .inside)))
-        (choices (at a t) c) (chosen (at a t) c)
+  module _ (test : List ℕ → ℕ → Bool) (own : OwnTest e test) where
+    found-mine : Each (Mine b t₀ e) (framesWith (at b x) (test (x .table)))
+    unfolding framesWith
+    found-mine =
+        each-map (λ (f : ℕ). (f < b .frames) × (test (x .table) f ≡ true)) (Mine b t₀ e)
+        (λ f r. own-frame f (r .0) (own .only (x .table) f (r .1)))
+        (framesWith (at b x) (test (x .table))) (kept (test (x .table)) (b .frames))
 
-    pub strays-mine : (c : ℕ) → Each (Mine b t₀ e) (strays (at a t) e c)
-    unfolding strays framesWith
-    strays-mine c =
-        each-map (λ (x : ℕ). (x < b .frames) × ((isOf e (word t x) && not (inSet b c x)) ≡ true)) (Mine b t₀ e)
-        (λ x r.
-        let page = word-page (word t x) (and-both (isOf e (word t x)) (not (inSet b c x)) (r .1) .0) in
-        own-frame x (word t x - wordOf e 0) (r .0) (page .0) (page .1))
-        (strays (at a t) e c) (kept (λ (x : ℕ). isOf e (word t x) && not (inSet b c x)) (b .frames))
-
-    -- in a frame outside its grant, e has no word
-    not-own : (x : ℕ) → x < b .frames → granted b t₀ e x ≡ false → isOf e (word t x) ≡ false
-    not-own x h g =
-        cases (isOf e (word t x))
-        (λ k. let page = word-page (word t x) k in absurd (true≢false (sym (own-frame x (word t x - wordOf e 0) h (page .0) (page .1) .own) ∙ g)))
+    -- outside its grant e has no word
+    none-outside : (f : ℕ) → f < b .frames → granted b e f ≡ false → test (x .table) f ≡ false
+    none-outside f h g =
+        cases (test (x .table) f)
+        (λ k. absurd (true≢false (sym (own-frame f h (own .only (x .table) f k) .own) ∙ g)))
         (λ k. k)
 
-    not-mapped : (x p : ℕ) → x < b .frames → p ≤ 4095 → granted b t₀ e x ≡ false → eqb (word t x) (wordOf e p) ≡ false
-    not-mapped x p h small g =
-        cases (eqb (word t x) (wordOf e p))
-        (λ k. absurd (true≢false (sym (own-frame x p h small (eqb-true _ _ k) .own) ∙ g)))
-        (λ k. k)
+  pub mapped-mine : (p : ℕ) → p ≤ 4095 → Each (Mine b t₀ e) (mappedTo (at b x) e p)
+  unfolding mappedTo
+  mapped-mine p small = found-mine _ (has-word e p small)
 
-  -- the same words in the frames of domain d
-  abbrev pub SameWords : ℕ → List ℕ → List ℕ → Type 0
-  SameWords d t u = (f : ℕ) → f < b .frames → granted b t₀ d f ≡ true → word t f ≡ word u f
+  pub strays-mine : (c : ℕ) → Each (Mine b t₀ e) (strays (at b x) e c)
+  unfolding strays
+  strays-mine c = found-mine _ (is-stray (b .colours) e c)
 
-  module _ {a t a′ u : List ℕ} (inv : Inv b t₀ a t) (inv′ : Inv b t₀ a′ u) {d : ℕ} (below : d < b .domains) (same : SameWords d t u) where
-    pub same-mapped : (p : ℕ) → p ≤ 4095 → mappedTo (at a t) d p ≡ mappedTo (at a′ u) d p
-    unfolding mappedTo framesWith
-    same-mapped p small =
-        same-kept (λ (x : ℕ). eqb (word t x) (wordOf d p)) (λ (x : ℕ). eqb (word u x) (wordOf d p)) (b .frames)
-        (λ x h.
-        cases (granted b t₀ d x)
-        (λ g. ap (λ (w : ℕ). eqb w (wordOf d p)) (same x h g))
-        (λ g. not-mapped inv below x p h small g ∙ sym (not-mapped inv′ below x p h small g)))
+-- the frames mapped to a page have its word, and where there are none no frame has
+module _ (b : Board) (x : Live) (e p : ℕ) where
+  pub mapped : Each (λ (f : ℕ). (f < b .frames) × (hasWord (x .table) (wordOf e p) f ≡ true)) (mappedTo (at b x) e p)
+  unfolding mappedTo framesWith
+  mapped = kept (hasWord (x .table) (wordOf e p)) (b .frames)
 
-    pub same-choices : (c : ℕ) → Inside b d c → choices (at a t) c ≡ choices (at a′ u) c
-    same-choices c inside =
-        choice-local (at a t) (at a′ u) c refl refl (λ x h k. same x h (inside (x % b .colours) k))
+  pub unmapped : mappedTo (at b x) e p ≡ [] → (f : ℕ) → f < b .frames → word (x .table) f ≡ wordOf e p → ⊥
+  unfolding mappedTo framesWith
+  unmapped q f h = eqb-false _ _ (kept-none (hasWord (x .table) (wordOf e p)) (b .frames) q f h)
 
-    pub same-strays : (c : ℕ) → strays (at a t) d c ≡ strays (at a′ u) d c
-    unfolding strays framesWith
-    same-strays c =
-        same-kept (λ (x : ℕ). isOf d (word t x) && not (inSet b c x)) (λ (x : ℕ). isOf d (word u x) && not (inSet b c x)) (b .frames)
-        (λ x h.
-        cases (granted b t₀ d x)
-        (λ g. ap (λ (w : ℕ). isOf d w && not (inSet b c x)) (same x h g))
-        (λ g. rw (not-own inv below x h g, not-own inv′ below x h g)))
+module _ {b : Board} {t₀ : List ℕ} {x y : Live} (inv : Inv b t₀ x) (inv′ : Inv b t₀ y) {d : ℕ} (below : d < b .domains)
+    (same : SameWords b d (x .table) (y .table)) where
+  same-found : (test : List ℕ → ℕ → Bool) → OwnTest d test → framesWith (at b x) (test (x .table)) ≡ framesWith (at b y) (test (y .table))
+  unfolding framesWith
+  same-found test own =
+      same-kept (test (x .table)) (test (y .table)) (b .frames)
+      (λ f h.
+      cases (granted b d f)
+      (λ g. own .by-word (x .table) (y .table) f (same f h g))
+      (λ g. none-outside inv below test own f h g ∙ sym (none-outside inv′ below test own f h g)))
+
+  pub same-mapped : (p : ℕ) → p ≤ 4095 → mappedTo (at b x) d p ≡ mappedTo (at b y) d p
+  unfolding mappedTo
+  same-mapped p small = same-found _ (has-word d p small)
+
+  pub same-strays : (c : ℕ) → strays (at b x) d c ≡ strays (at b y) d c
+  unfolding strays
+  same-strays c = same-found _ (is-stray (b .colours) d c)
+
+  pub same-choices : (c : ℕ) → Inside b d c → choices (at b x) d c ≡ choices (at b y) d c
+  same-choices c inside = choice-local (at b x) (at b y) d c refl refl (λ f h k. same f h (inside (f % b .colours) k))

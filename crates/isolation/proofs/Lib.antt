@@ -1,8 +1,9 @@
 -- The argument for the domain rule.
 pub mod Unwinding
+pub mod AcceptedBoard
 pub mod TestLists
-pub mod Accepted
 pub mod Invariant
+pub mod Agree
 pub mod Found
 pub mod Keeps
 pub mod Sees

@@ -1,192 +1,142 @@
--- A domain's own calls go by what it sees: its active set and the words of the frames of its grant. Two states that agree there give the
--- same reply and the same moves, and agree again afterwards.
-use Prim.Native.Nat.{ℕ, _*_, _<_, _≤_}
+-- A domain's own calls go by what it sees. Two states that agree there give the same reply and the same moves, and agree again afterwards.
+use Prim.Native.Nat.{ℕ, _<_}
 use mathlib.Core.Bool.{true, false, _&&_, true≢false}
-use mathlib.Core.List.{List, [], _∷_}
-use mathlib.Core.Path.{_≡_, refl, sym, ap, ap₂, subst, _∙_}
-use lib.Dec.{ltb}
-use lib.ListN.{length, getD, set, length-set}
+use mathlib.Core.List.{List, [], _∷_, _++_}
+use mathlib.Core.Path.{_≡_, refl, sym, ap, _∙_}
+use lib.ListN.{length, set, length-set}
 use lib.Seq.{getD-set-same, getD-set-other}
-use borrow.Author.Tests.{ltb-true, ltb-false, not-false}
 use Rattle.lists.specs.Range.{headOr, isEmpty}
 use Rattle.lists.proofs.Members.{Each}
-use Rattle.refusal.specs.Reply.{Test, test, passes}
+use Rattle.refusal.specs.Reply.{Reply, Answers, Test, test, unless, passes}
 use Rattle.refusal.proofs.Replies.{passed-first}
 use Rattle.board.specs.declared.Board.{Board}
-use Rattle.board.specs.Tests.{grant, activeSet, emptyOrOutside, callerTest}
+use Rattle.board.specs.Tests.{grant, emptyOrOutside}
 use Rattle.calls.specs.Table.{State, word, wordOf, mappedTo, choices, strays}
-use Rattle.calls.specs.Calls.{Freed, Active, Moved, Move, Done, called, only, written, pageTest, lookAnswer, look, faultDone, fault, release, colours, pairUp, move, moveAll, recolour}
+use Rattle.calls.specs.Calls.{Freed, Active, Move, Done, settle, called, written, pageTest, lookAnswer, faultDone, pairUp, move, moveAll}
+use Rattle.calls.specs.Calls.{look, fault, release, colours, recolour}
 use Rattle.isolation.specs.DomainRule.{Call, Look, Fault, Release, Colours, Recolour, names, outcome}
-use Rattle.isolation.proofs.TestLists.{called-accepted, Meet, MeetDone, Alike, unless-two, caller-below}
-use Rattle.isolation.proofs.Accepted.{over, facts, set-inside}
-use Rattle.isolation.proofs.Invariant.{after-write, Inv, Mine, MovesMine}
-use Rattle.isolation.proofs.Found.{at, Inside, SameWords, mapped-mine, choices-mine, strays-mine, same-mapped, same-choices, same-strays}
-use Rattle.isolation.proofs.Keeps.{Good, good, active-place, pairs-mine}
+use Rattle.isolation.proofs.AcceptedBoard.{Live, at, withTable, withSet, setOf, set-inside}
+use Rattle.isolation.proofs.TestLists.{Meet, answered, unless-two, called-two, small-page}
+use Rattle.isolation.proofs.Invariant.{after-write, Inv, Good, good, Mine, known, MovesMine}
+use Rattle.isolation.proofs.Agree.{SameWords, Agree}
+use Rattle.isolation.proofs.Found.{mapped-mine, choices-mine, strays-mine, same-mapped, same-choices, same-strays}
+use Rattle.isolation.proofs.Keeps.{pairs-mine}
 
 module _ (b : Board) (t₀ : List ℕ) (d : ℕ) where
-  -- two states agree where domain d sees them
-  pub record Agree (s r : State) : Type 0 where
-    pub active : activeSet (s .board) d ≡ activeSet (r .board) d
-    pub words : SameWords b t₀ d (s .table) (r .table)
-
   -- the same write on both sides
-  same-write : (t u : List ℕ) (f w : ℕ) → f < length t → f < length u → SameWords b t₀ d t u → SameWords b t₀ d (set t f w) (set u f w)
-  same-write t u f w lt lu same x h g =
-      after-write (λ (v : ℕ). v ≡ word (set u f w) x) t f w x lt
+  same-write : (t u : List ℕ) (f w : ℕ) → f < length t → f < length u → SameWords b d t u → SameWords b d (set t f w) (set u f w)
+  same-write t u f w lt lu same g h own =
+      after-write (λ (v : ℕ). v ≡ word (set u f w) g) t f w g lt
       (λ q. rw q (sym (getD-set-same u f w 0 lu)))
-      (λ q. same x h g ∙ sym (getD-set-other u f x w 0 q))
+      (λ q. same g h own ∙ sym (getD-set-other u f g w 0 q))
 
-  same-moves : (ms : List Move) (t u : List ℕ) → length t ≡ b .frames → length u ≡ b .frames → MovesMine b t₀ d ms → SameWords b t₀ d t u
-      → SameWords b t₀ d (moveAll t ms) (moveAll u ms)
+  same-moves : (ms : List Move) (t u : List ℕ) → length t ≡ b .frames → length u ≡ b .frames → MovesMine b t₀ d ms → SameWords b d t u
+      → SameWords b d (moveAll t ms) (moveAll u ms)
   unfolding moveAll
   same-moves [] t u lt lu mine same = same
   same-moves (m ∷ ms) t u lt lu mine same =
       let v = m .source in
-      let g = m .target in
-      let w : word t v ≡ word u v = same v (mine .0 .below) (mine .0 .own) in
       let cleared = same-write t u v 0 (rw lt (mine .0 .below)) (rw lu (mine .0 .below)) same in
-      let once = same-write (set t v 0) (set u v 0) g (word t v) (rw (length-set t v 0, lt) (mine .1 .below)) (rw (length-set u v 0, lu) (mine .1 .below)) cleared in
       same-moves ms (move t m) (move u m) (simp length-set lt) (simp length-set lu) (mine .2)
-      (subst (λ (x : ℕ). SameWords b t₀ d (move t m) (set (set u v 0) g x)) w once)
+      (rw (← (same v (mine .0 .below) (mine .0 .own)))
+      (same-write (set t v 0) (set u v 0) (m .target) (word t v)
+      (rw (length-set t v 0, lt) (mine .1 .below)) (rw (length-set u v 0, lu) (mine .1 .below)) cleared))
 
-  same-pairs : (t u vs gs : List ℕ) → Each (Mine b t₀ d) vs → SameWords b t₀ d t u → pairUp d t vs gs ≡ pairUp d u vs gs
+  same-pairs : (t u vs gs : List ℕ) → Each (Mine b t₀ d) vs → SameWords b d t u → pairUp d t vs gs ≡ pairUp d u vs gs
   unfolding pairUp
   same-pairs t u [] gs mine same = refl
   same-pairs t u (v ∷ vs) [] mine same = refl
   same-pairs t u (v ∷ vs) (g ∷ gs) mine same = rw (same v (mine .0 .below) (mine .0 .own), same-pairs t u vs gs (mine .1) same)
 
-  module _ {a t a′ u : List ℕ} (inv : Inv b t₀ a t) (inv′ : Inv b t₀ a′ u) (sees : Agree (at b t₀ a t) (at b t₀ a′ u)) where
-    under : (own own′ : List Test) (o q : Done) → (d < b .domains → Alike own own′) → (d < b .domains → passes own ≡ true → MeetDone Agree o q)
-        → Meet Agree (called (at b t₀ a t) d own o) (called (at b t₀ a′ u) d own′ q)
-    under own own′ o q same f =
-        rw (called-accepted (at b t₀ a t) d own o (inv .accepted), called-accepted (at b t₀ a′ u) d own′ q (inv′ .accepted))
-        (unless-two Agree (at b t₀ a t) (at b t₀ a′ u) (callerTest (over b a) d ∷ own) (callerTest (over b a) d ∷ own′) o q sees
-        (refl, λ h. same (ltb-true d (b .domains) (not-false (ltb d (b .domains)) h)))
-        (λ p. let r = caller-below (at b t₀ a t) d own p in f (r .0) (r .1)))
+module _ {b : Board} {t₀ : List ℕ} {d : ℕ} {x y : Live} (inv : Inv b t₀ x) (inv′ : Inv b t₀ y) (sees : Agree b d (at b x) (at b y)) where
+  abbrev Both : Reply Done → Reply Done → Type 0
+  Both o q = Meet (Agree b d) (settle (at b x) o) (settle (at b y) q)
 
-    long : (length t ≡ b .frames) × (length u ≡ b .frames)
-    long = (facts b a (length t) (inv .accepted) .long, facts b a′ (length u) (inv′ .accepted) .long)
+  -- a call under its tests, of which the first are the same on both sides
+  under : (first us us′ : List Test) (o q : Done) → (d < b .domains → passes first ≡ true → Both (unless us o) (unless us′ q))
+      → Meet (Agree b d) (called (at b x) d (first ++ us) o) (called (at b y) d (first ++ us′) q)
+  under = called-two (Agree b d) b x y sees (inv .accepted) (inv′ .accepted) d
 
-    pub look-meets : (p : ℕ) → Meet Agree (look (at b t₀ a t) d p) (look (at b t₀ a′ u) d p)
-    unfolding look
-    look-meets p =
-        under (pageTest p ∷ []) (pageTest p ∷ []) (only (at b t₀ a t) (lookAnswer (mappedTo (at b t₀ a t) d p))) (only (at b t₀ a′ u) (lookAnswer (mappedTo (at b t₀ a′ u) d p)))
-        (λ below. (refl, λ h. tt))
-        (λ below ok.
-        let small = ltb-false 4095 p (passed-first (pageTest p) [] ok .0) in
-        record { answer = ap lookAnswer (same-mapped b t₀ inv inv′ below (sees .words) p small); moves = refl; next = sees })
+  pub look-meets : (p : ℕ) → Meet (Agree b d) (look (at b x) d p) (look (at b y) d p)
+  unfolding look unless
+  look-meets p =
+      under (pageTest p ∷ []) _ _ _ _ (λ below ok.
+      answered (Agree b d) sees (ap lookAnswer (same-mapped inv inv′ below (sees .words) p (small-page p [] ok .0))) refl sees)
 
-    pub colours-meets : Meet Agree (colours (at b t₀ a t) d) (colours (at b t₀ a′ u) d)
-    unfolding colours
-    colours-meets =
-        under [] [] (only (at b t₀ a t) (Active (getD a d 0))) (only (at b t₀ a′ u) (Active (getD a′ d 0)))
-        (λ below. tt)
-        (λ below ok. record { answer = ap Active (sees .active); moves = refl; next = sees })
+  pub colours-meets : Meet (Agree b d) (colours (at b x) d) (colours (at b y) d)
+  unfolding colours unless
+  colours-meets = under [] _ _ _ _ (λ below ok. answered (Agree b d) sees (ap Active (sees .active)) refl sees)
 
-    -- the active set, and the free frames of it
-    active-inside : d < b .domains → Inside b d (getD a d 0)
-    active-inside below = set-inside b d (getD a d 0) (facts b a (length t) (inv .accepted) .fine d below)
+  same-free : d < b .domains → choices (at b x) d (setOf x d) ≡ choices (at b y) d (setOf y d)
+  same-free below = rw (← (sees .active)) (same-choices inv inv′ below (sees .words) (setOf x d) (known inv .inside d below))
 
-    same-free : d < b .domains → choices (at b t₀ a t) (getD a d 0) ≡ choices (at b t₀ a′ u) (getD a′ d 0)
-    same-free below =
-        same-choices b t₀ inv inv′ below (sees .words) (getD a d 0) (active-inside below)
-        ∙ ap (λ (c : ℕ). choices (at b t₀ a′ u) c) (sees .active)
+  wrote : (f w : ℕ) → Mine b t₀ d f → Agree b d (written (at b x) f w) (written (at b y) f w)
+  wrote f w mine =
+      record {
+        active = sees .active;
+        words =
+            same-write b t₀ d (x .table) (y .table) f w (rw (known inv .long) (mine .below)) (rw (known inv′ .long) (mine .below)) (sees .words);
+      }
 
-    wrote : (f w : ℕ) → Mine b t₀ d f → Agree (written (at b t₀ a t) f w) (written (at b t₀ a′ u) f w)
-    wrote f w mine =
-        record { active = sees .active; words = same-write t u f w (rw (long .0) (mine .below)) (rw (long .1) (mine .below)) (sees .words) }
+  fault-done : (w : ℕ) (ms gs : List ℕ) → Each (Mine b t₀ d) gs → (isEmpty ms && isEmpty gs) ≡ false
+      → Both (Answers (faultDone (at b x) w ms gs)) (Answers (faultDone (at b y) w ms gs))
+  fault-done w (f ∷ ms) gs mine some = answered (Agree b d) sees refl refl sees
+  fault-done w [] [] mine some = absurd (true≢false some)
+  fault-done w [] (g ∷ gs) mine some = answered (Agree b d) sees refl refl (wrote g w (mine .0))
 
-    fault-done : (w : ℕ) (ms gs : List ℕ) → Each (Mine b t₀ d) gs → (isEmpty ms && isEmpty gs) ≡ false
-        → MeetDone Agree (faultDone (at b t₀ a t) w ms gs) (faultDone (at b t₀ a′ u) w ms gs)
-    fault-done w (f ∷ ms) gs mine some = record { answer = refl; moves = refl; next = sees }
-    fault-done w [] [] mine some = absurd (true≢false some)
-    fault-done w [] (g ∷ gs) mine some = record { answer = refl; moves = refl; next = wrote g w (mine .0) }
+  pub fault-meets : (p : ℕ) → Meet (Agree b d) (fault (at b x) d p) (fault (at b y) d p)
+  unfolding fault
+  fault-meets p =
+      under (pageTest p ∷ []) _ _ _ _ (λ below ok.
+      rw (← (same-mapped inv inv′ below (sees .words) p (small-page p [] ok .0)), ← (same-free below))
+      (unless-two (Agree b d) sees _ _ _ (λ some.
+      fault-done (wordOf d p) (mappedTo (at b x) d p) (choices (at b x) d (setOf x d))
+      (choices-mine inv below (setOf x d) (known inv .inside d below)) (passed-first _ _ some .0))))
 
-    pub fault-meets : (p : ℕ) → Meet Agree (fault (at b t₀ a t) d p) (fault (at b t₀ a′ u) d p)
-    unfolding fault
-    fault-meets p =
-        let ms = mappedTo (at b t₀ a t) d p in
-        let gs = choices (at b t₀ a t) (getD a d 0) in
-        let ms′ = mappedTo (at b t₀ a′ u) d p in
-        let gs′ = choices (at b t₀ a′ u) (getD a′ d 0) in
-        let same : d < b .domains → p ≤ 4095 → ms ≡ ms′ = λ below small. same-mapped b t₀ inv inv′ below (sees .words) p small in
-        under (pageTest p ∷ test 12 (isEmpty ms && isEmpty gs) ∷ []) (pageTest p ∷ test 12 (isEmpty ms′ && isEmpty gs′) ∷ [])
-        (faultDone (at b t₀ a t) (wordOf d p) ms gs) (faultDone (at b t₀ a′ u) (wordOf d p) ms′ gs′)
-        (λ below. (refl, λ h. (ap₂ (λ (x y : List ℕ). test 12 (isEmpty x && isEmpty y)) (same below (ltb-false 4095 p h)) (same-free below), λ _. tt)))
-        (λ below ok.
-        let ten = passed-first (pageTest p) _ ok in
-        let m = fault-done (wordOf d p) ms gs (choices-mine b t₀ inv below (getD a d 0) (active-inside below)) (passed-first _ _ (ten .1) .0) in
-        subst (λ (x : List ℕ). MeetDone Agree (faultDone (at b t₀ a t) (wordOf d p) ms gs) (faultDone (at b t₀ a′ u) (wordOf d p) x gs′)) (same below (ltb-false 4095 p (ten .0)))
-        (subst (λ (y : List ℕ). MeetDone Agree (faultDone (at b t₀ a t) (wordOf d p) ms gs) (faultDone (at b t₀ a′ u) (wordOf d p) ms y)) (same-free below) m))
+  release-done : (ms : List ℕ) → Each (Mine b t₀ d) ms → isEmpty ms ≡ false
+      → Both (Answers (record { answer = Freed (headOr 0 ms); moves = []; next = written (at b x) (headOr 0 ms) 0 }))
+      (Answers (record { answer = Freed (headOr 0 ms); moves = []; next = written (at b y) (headOr 0 ms) 0 }))
+  release-done [] mine some = absurd (true≢false some)
+  release-done (f ∷ ms) mine some = answered (Agree b d) sees refl refl (wrote f 0 (mine .0))
 
-    freed : List ℕ → State → Done
-    freed ms s = record { answer = Freed (headOr 0 ms); moves = []; next = written s (headOr 0 ms) 0 }
+  pub release-meets : (p : ℕ) → Meet (Agree b d) (release (at b x) d p) (release (at b y) d p)
+  unfolding release
+  release-meets p =
+      under (pageTest p ∷ []) _ _ _ _ (λ below ok.
+      let small = small-page p [] ok .0 in
+      rw (← (same-mapped inv inv′ below (sees .words) p small))
+      (unless-two (Agree b d) sees _ _ _ (λ some.
+      release-done (mappedTo (at b x) d p) (mapped-mine inv below p small) (passed-first _ _ some .0))))
 
-    release-done : (ms : List ℕ) → Each (Mine b t₀ d) ms → isEmpty ms ≡ false → MeetDone Agree (freed ms (at b t₀ a t)) (freed ms (at b t₀ a′ u))
-    unfolding freed
-    release-done [] mine some = absurd (true≢false some)
-    release-done (f ∷ ms) mine some = record { answer = refl; moves = refl; next = wrote f 0 (mine .0) }
+  recolour-done : d < b .domains → (c : ℕ) (ms : List Move) → MovesMine b t₀ d ms
+      → Agree b d (at b (withSet (withTable x (moveAll (x .table) ms)) d c)) (at b (withSet (withTable y (moveAll (y .table) ms)) d c))
+  recolour-done below c ms mine =
+      record {
+        active = getD-set-same (x .active) d c 0 (known inv .placed d below) ∙ sym (getD-set-same (y .active) d c 0 (known inv′ .placed d below));
+        words = same-moves b t₀ d ms (x .table) (y .table) (known inv .long) (known inv′ .long) mine (sees .words);
+      }
 
-    pub release-meets : (p : ℕ) → Meet Agree (release (at b t₀ a t) d p) (release (at b t₀ a′ u) d p)
-    unfolding release freed
-    release-meets p =
-        let ms = mappedTo (at b t₀ a t) d p in
-        let ms′ = mappedTo (at b t₀ a′ u) d p in
-        let same : d < b .domains → p ≤ 4095 → ms ≡ ms′ = λ below small. same-mapped b t₀ inv inv′ below (sees .words) p small in
-        under (pageTest p ∷ test 14 (isEmpty ms) ∷ []) (pageTest p ∷ test 14 (isEmpty ms′) ∷ []) (freed ms (at b t₀ a t)) (freed ms′ (at b t₀ a′ u))
-        (λ below. (refl, λ h. (ap (λ (x : List ℕ). test 14 (isEmpty x)) (same below (ltb-false 4095 p h)), λ _. tt)))
-        (λ below ok.
-        let ten = passed-first (pageTest p) _ ok in
-        let small = ltb-false 4095 p (ten .0) in
-        subst (λ (x : List ℕ). MeetDone Agree (freed ms (at b t₀ a t)) (freed x (at b t₀ a′ u))) (same below small)
-        (release-done ms (mapped-mine b t₀ inv below p small) (passed-first _ _ (ten .1) .0)))
+  pub recolour-meets : (c : ℕ) (lent : List ℕ) → Meet (Agree b d) (recolour (at b x) d c lent) (recolour (at b y) d c lent)
+  unfolding recolour
+  recolour-meets c lent =
+      let vs = strays (at b x) d c in
+      let gs = choices (at b x) d c in
+      under (test 9 (emptyOrOutside (grant b d) c) ∷ []) _ _ _ _ (λ below ok.
+      let inside = set-inside b d c (passed-first _ _ ok .0) in
+      let stray = strays-mine inv below c in
+      rw (
+        ← (same-strays inv inv′ below (sees .words) c),
+        ← (same-choices inv inv′ below (sees .words) c inside),
+        ← (same-pairs b t₀ d (x .table) (y .table) vs gs stray (sees .words)),
+      )
+      (unless-two (Agree b d) sees _ _ _ (λ some.
+      answered (Agree b d) sees refl refl
+      (recolour-done below c (pairUp d (x .table) vs gs) (pairs-mine b t₀ d (x .table) vs gs stray (choices-mine inv below c inside))))))
 
-    turned : ℕ → List ℕ → List ℕ → List ℕ → List ℕ → Done
-    turned c vs gs x y =
-        record { answer = Moved (length vs); moves = pairUp d y vs gs; next = at b t₀ (set x d c) (moveAll y (pairUp d y vs gs)) }
-
-    recolour-done : (below : d < b .domains) (c : ℕ) (vs gs : List ℕ) → Each (Mine b t₀ d) vs → Each (Mine b t₀ d) gs
-        → MeetDone Agree (turned c vs gs a t) (turned c vs gs a′ u)
-    unfolding turned
-    recolour-done below c vs gs mv mg =
-        let ms = pairUp d t vs gs in
-        let pairs = same-pairs t u vs gs mv (sees .words) in
-        let here = active-place b t₀ a d (facts b a (length t) (inv .accepted) .fine d below) in
-        let there = active-place b t₀ a′ d (facts b a′ (length u) (inv′ .accepted) .fine d below) in
-        record {
-          answer = refl;
-          moves = pairs;
-          next = record {
-            active = getD-set-same a d c 0 here ∙ sym (getD-set-same a′ d c 0 there);
-            words = subst (λ (x : List Move). SameWords b t₀ d (moveAll t ms) (moveAll u x)) pairs
-                (same-moves ms t u (long .0) (long .1) (pairs-mine b t₀ d t vs gs mv mg) (sees .words));
-          };
-        }
-
-    pub recolour-meets : (c : ℕ) (lent : List ℕ) → Meet Agree (recolour (at b t₀ a t) d c lent) (recolour (at b t₀ a′ u) d c lent)
-    unfolding recolour turned
-    recolour-meets c lent =
-        let vs = strays (at b t₀ a t) d c in
-        let gs = choices (at b t₀ a t) c in
-        let vs′ = strays (at b t₀ a′ u) d c in
-        let gs′ = choices (at b t₀ a′ u) c in
-        let fails-9 = emptyOrOutside (grant b d) c in
-        let same-v : d < b .domains → vs ≡ vs′ = λ below. same-strays b t₀ inv inv′ below (sees .words) c in
-        let same-g : d < b .domains → fails-9 ≡ false → gs ≡ gs′ = λ below nine. same-choices b t₀ inv inv′ below (sees .words) c (set-inside b d c nine) in
-        under
-        (test 9 fails-9 ∷ test 12 (ltb (length gs) (length vs)) ∷ test 13 (ltb (length lent) (3 * length vs)) ∷ [])
-        (test 9 fails-9 ∷ test 12 (ltb (length gs′) (length vs′)) ∷ test 13 (ltb (length lent) (3 * length vs′)) ∷ [])
-        (turned c vs gs a t) (turned c vs′ gs′ a′ u)
-        (λ below. (refl, λ nine. (ap₂ (λ (x y : List ℕ). test 12 (ltb (length x) (length y))) (same-g below nine) (same-v below), λ _. (ap (λ (y : List ℕ). test 13 (ltb (length lent) (3 * length y))) (same-v below), λ _. tt))))
-        (λ below ok.
-        let nine = passed-first _ _ ok .0 in
-        subst (λ (x : List ℕ). MeetDone Agree (turned c vs gs a t) (turned c x gs′ a′ u)) (same-v below)
-        (subst (λ (y : List ℕ). MeetDone Agree (turned c vs gs a t) (turned c vs y a′ u)) (same-g below nine)
-        (recolour-done below c vs gs (strays-mine b t₀ inv below c) (choices-mine b t₀ inv below c (set-inside b d c nine)))))
-
-  pub call-meets : (s r : State) → Good b t₀ s → Good b t₀ r → Agree s r → (c : Call) → names c ≡ d → Meet Agree (outcome s c) (outcome r c)
-  call-meets s r (good inv) (good inv′) sees (Look e p) q = rw q (look-meets inv inv′ sees p)
-  call-meets s r (good inv) (good inv′) sees (Fault e p) q = rw q (fault-meets inv inv′ sees p)
-  call-meets s r (good inv) (good inv′) sees (Release e p) q = rw q (release-meets inv inv′ sees p)
-  call-meets s r (good inv) (good inv′) sees (Colours e) q = rw q (colours-meets inv inv′ sees)
-  call-meets s r (good inv) (good inv′) sees (Recolour e c lent) q = rw q (recolour-meets inv inv′ sees c lent)
+pub call-meets : {b : Board} {t₀ : List ℕ} {d : ℕ} {s r : State} → Good b t₀ s → Good b t₀ r → Agree b d s r → (c : Call) → names c ≡ d
+    → Meet (Agree b d) (outcome s c) (outcome r c)
+call-meets (good inv) (good inv′) sees (Look e p) q = rw q (look-meets inv inv′ sees p)
+call-meets (good inv) (good inv′) sees (Fault e p) q = rw q (fault-meets inv inv′ sees p)
+call-meets (good inv) (good inv′) sees (Release e p) q = rw q (release-meets inv inv′ sees p)
+call-meets (good inv) (good inv′) sees (Colours e) q = rw q (colours-meets inv inv′ sees)
+call-meets (good inv) (good inv′) sees (Recolour e c lent) q = rw q (recolour-meets inv inv′ sees c lent)

@@ -1,39 +1,48 @@
--- Calls under their tests: where the board passes 2 to 7, a call goes by its caller's test and its own. What holds of a refusal and of
--- the outcome where all tests pass holds of the call, for one state and for two.
-use Prim.Native.Nat.{ℕ, _<_}
-use mathlib.Core.Bool.{true, false}
-use mathlib.Core.List.{List, [], _∷_, _++_}
+-- Calls under their tests: in an accepted state a call goes by its caller's test and its own. What holds of a refusal, and of the outcome
+-- where all tests pass, holds of the call, for one state and for two.
+use Prim.Native.Nat.{ℕ, _<_, _≤_}
+use mathlib.Core.Bool.{true}
+use mathlib.Core.List.{List, [], _∷_, _++_, append-assoc, append-nil}
 use mathlib.Core.Path.{_≡_, refl, ap}
-use lib.Dec.{ltb}
 use lib.ListN.{length}
-use borrow.Author.Tests.{ltb-true, not-false}
+use borrow.Author.Tests.{ltb-false}
 use Rattle.lists.proofs.Split.{cases}
 use Rattle.refusal.specs.Reply.{Answers, Test, unless, passes}
-use Rattle.refusal.proofs.Replies.{passed-first}
-use Rattle.board.specs.Tests.{boardTests, callerTest}
+use Rattle.refusal.proofs.Replies.{passed-first, passed-answers}
+use Rattle.refusal.proofs.Order.{unless-passed}
+use Rattle.board.specs.declared.Board.{Board}
+use Rattle.board.specs.Tests.{stateTests, callerTest, callTests}
+use Rattle.board.proofs.Passed.{caller-below}
 use Rattle.calls.specs.Table.{State}
-use Rattle.calls.specs.Calls.{Done, Outcome, settle, called}
-
--- tests that pass may be left out in front
-unless-passed : {A : Type 0} (ts us : List Test) (a : A) → passes ts ≡ true → unless (ts ++ us) a ≡ unless us a
-unfolding unless passes
-unless-passed [] us a e = refl
-unless-passed (t ∷ ts) us a e =
-    let r = passed-first t ts e in rw (r .0) (unless-passed ts us a (r .1))
+use Rattle.calls.specs.Calls.{Done, Outcome, settle, called, pageTest}
+use Rattle.isolation.specs.DomainRule.{Accepted}
+use Rattle.isolation.proofs.AcceptedBoard.{Live, at}
 
 -- in an accepted state
-pub called-accepted : (s : State) (d : ℕ) (own : List Test) (done : Done) → passes (boardTests (s .board) (length (s .table))) ≡ true
+pub called-accepted : (s : State) (d : ℕ) (own : List Test) (done : Done) → Accepted s
     → called s d own done ≡ settle s (unless (callerTest (s .board) d ∷ own) done)
-unfolding called
-called-accepted s d own done e = ap (settle s) (unless-passed (boardTests (s .board) (length (s .table))) (callerTest (s .board) d ∷ own) done e)
+unfolding called callTests
+called-accepted s d own done ok =
+    let state = stateTests (s .board) (length (s .table)) in
+    rw (append-assoc state (callerTest (s .board) d ∷ []) own)
+    (ap (settle s) (unless-passed done done state (callerTest (s .board) d ∷ own) (passed-answers state done ok)))
+
+-- the page of a call that passes 10
+pub small-page : (p : ℕ) (own : List Test) → passes (pageTest p ∷ own) ≡ true → (p ≤ 4095) × (passes own ≡ true)
+small-page p own ok = let r = passed-first (pageTest p) own ok in (ltb-false 4095 p (r .0), r .1)
 
 -- one state: what holds of it, and of the next one where the tests pass, holds of the next one under the tests
-pub unless-one : (K : State → Type 0) (s : State) (ts : List Test) (done : Done) → K s → (passes ts ≡ true → K (done .next))
-    → K (settle s (unless ts done) .next)
-unfolding unless passes settle
-unless-one K s [] done k f = f refl
-unless-one K s (t ∷ ts) done k f =
-    cases (t .fails) (λ e. rw e k) (λ e. rw e (unless-one K s ts done k (λ p. f (rw e p))))
+module _ (K : State → Type 0) (s : State) (k : K s) where
+  unless-one : (ts : List Test) (done : Done) → (passes ts ≡ true → K (done .next)) → K (settle s (unless ts done) .next)
+  unfolding unless passes settle
+  unless-one [] done f = f refl
+  unless-one (t ∷ ts) done f = cases (t .fails) (λ e. rw e k) (λ e. rw e (unless-one ts done (λ p. f (rw e p))))
+
+  pub called-one : Accepted s → (d : ℕ) (own : List Test) (done : Done) → (d < s .board .domains → passes own ≡ true → K (done .next))
+      → K (called s d own done .next)
+  called-one ok d own done f =
+      rw (called-accepted s d own done ok)
+      (unless-one (callerTest (s .board) d ∷ own) done (λ p. let r = passed-first _ own p in f (caller-below (s .board) d (r .0)) (r .1)))
 
 -- two states: the same replies and moves, and related next states
 pub record Meet (R : State → State → Type 0) (o q : Outcome) : Type 0 where
@@ -41,33 +50,35 @@ pub record Meet (R : State → State → Type 0) (o q : Outcome) : Type 0 where
   pub moves : o .moves ≡ q .moves
   pub next : R (o .next) (q .next)
 
-pub record MeetDone (R : State → State → Type 0) (o q : Done) : Type 0 where
-  pub answer : o .answer ≡ q .answer
-  pub moves : o .moves ≡ q .moves
-  pub next : R (o .next) (q .next)
+module _ (R : State → State → Type 0) {s r : State} (k : R s r) where
+  pub answered : {o q : Done} → o .answer ≡ q .answer → o .moves ≡ q .moves → R (o .next) (q .next)
+      → Meet R (settle s (Answers o)) (settle r (Answers q))
+  unfolding settle
+  answered answer moves next = record { reply = ap Answers answer; moves = moves; next = next }
 
--- two lists of tests of which each two are equal where those before pass
-abbrev pub Alike : List Test → List Test → Type 0
-Alike [] [] = Unit {0}
-Alike [] (u ∷ us) = ⊥
-Alike (t ∷ ts) [] = ⊥
-Alike (t ∷ ts) (u ∷ us) = (t ≡ u) × (t .fails ≡ false → Alike ts us)
+  -- the first tests are the same on both sides, and where they pass it goes on
+  unless-both : (ts us us′ : List Test) (o q : Done)
+      → (passes ts ≡ true → Meet R (settle s (unless us o)) (settle r (unless us′ q)))
+      → Meet R (settle s (unless (ts ++ us) o)) (settle r (unless (ts ++ us′) q))
+  unfolding unless passes settle
+  unless-both [] us us′ o q f = f refl
+  unless-both (t ∷ ts) us us′ o q f =
+      cases (t .fails)
+      (λ e. rw e (record { reply = refl; moves = refl; next = k }))
+      (λ e. rw e (unless-both ts us us′ o q (λ p. f (rw e p))))
 
-pub unless-two : (R : State → State → Type 0) (s r : State) (ts us : List Test) (o q : Done) → R s r → Alike ts us
-    → (passes ts ≡ true → MeetDone R o q) → Meet R (settle s (unless ts o)) (settle r (unless us q))
-unfolding unless passes settle
-unless-two R s r [] [] o q k same f =
-    let m = f refl in record { reply = ap Answers (m .answer); moves = m .moves; next = m .next }
-unless-two R s r [] (u ∷ us) o q k same f = absurd same
-unless-two R s r (t ∷ ts) [] o q k same f = absurd same
-unless-two R s r (t ∷ ts) (u ∷ us) o q k same f =
-    rw (← (same .0))
-    (cases (t .fails)
-    (λ e. rw e (record { reply = refl; moves = refl; next = k }))
-    (λ e. rw e (unless-two R s r ts us o q k (same .1 e) (λ p. f (rw e p)))))
+  -- all tests are
+  pub unless-two : (ts : List Test) (o q : Done) → (passes ts ≡ true → Meet R (settle s (Answers o)) (settle r (Answers q)))
+      → Meet R (settle s (unless ts o)) (settle r (unless ts q))
+  unfolding unless
+  unless-two ts o q f = rw (← (append-nil ts)) (unless-both ts [] [] o q f)
 
--- the caller's test passes: the domain is below the count
-pub caller-below : (s : State) (d : ℕ) (own : List Test) → passes (callerTest (s .board) d ∷ own) ≡ true → (d < s .board .domains) × (passes own ≡ true)
-caller-below s d own e =
-    let r = passed-first (callerTest (s .board) d) own e in
-    (ltb-true d (s .board .domains) (not-false (ltb d (s .board .domains)) (r .0)), r .1)
+-- a call on both sides, of one board with two live parts
+module _ (R : State → State → Type 0) (b : Board) (x y : Live) (k : R (at b x) (at b y)) where
+  pub called-two : Accepted (at b x) → Accepted (at b y) → (d : ℕ) (first us us′ : List Test) (o q : Done)
+      → (d < b .domains → passes first ≡ true → Meet R (settle (at b x) (unless us o)) (settle (at b y) (unless us′ q)))
+      → Meet R (called (at b x) d (first ++ us) o) (called (at b y) d (first ++ us′) q)
+  called-two ok ok′ d first us us′ o q f =
+      rw (called-accepted (at b x) d (first ++ us) o ok, called-accepted (at b y) d (first ++ us′) q ok′)
+      (unless-both R k (callerTest b d ∷ first) us us′ o q
+      (λ p. let r = passed-first _ first p in f (caller-below b d (r .0)) (r .1)))

@@ -8,18 +8,17 @@ use mathlib.Core.Path.{_≡_, refl}
 use Rattle.lists.specs.Choice.{if_then_else_}
 use Rattle.lists.proofs.Split.{cases}
 
-module _ {S C A : Type 0} (next : S → C → S) (told : S → C → A) (mine : C → Bool) where
-  unfoldable pub runs : S → List C → S
-  runs s [] = s
-  runs s (c ∷ cs) = runs (next s c) cs
+unfoldable pub runs : {S C : Type 0} → (S → C → S) → S → List C → S
+runs next s [] = s
+runs next s (c ∷ cs) = runs next (next s c) cs
 
-  unfoldable pub owns : List C → List C
-  owns [] = []
-  owns (c ∷ cs) = let rest = owns cs in if mine c then c ∷ rest else rest
+unfoldable pub owns : {C : Type 0} → (C → Bool) → List C → List C
+owns mine [] = []
+owns mine (c ∷ cs) = let rest = owns mine cs in if mine c then c ∷ rest else rest
 
-  unfoldable pub heard : S → List C → List A
-  heard s [] = []
-  heard s (c ∷ cs) = let rest = heard (next s c) cs in if mine c then told s c ∷ rest else rest
+unfoldable pub heard : {S C A : Type 0} → (S → C → S) → (S → C → A) → (C → Bool) → S → List C → List A
+heard next told mine s [] = []
+heard next told mine s (c ∷ cs) = let rest = heard next told mine (next s c) cs in if mine c then told s c ∷ rest else rest
 
 -- two lists are related member by member
 abbrev pub All₂ : {A : Type 0} → (A → A → Type 0) → List A → List A → Type 0
@@ -42,7 +41,7 @@ module _ {S C A : Type 0} (next : S → C → S) (told : S → C → A) (mine : 
     (own-step : (s r : S) (c : C) → R s r → mine c ≡ true → Same (told s c) (told r c) × R (next s c) (next r c))
     (other-step : (s r : S) (c : C) → R s r → mine c ≡ false → R (next s c) r) where
   -- a list run from one state, and its own calls run from a related one, lead to related states
-  pub meet : (l : List C) (s r : S) → R s r → R (runs next told mine s l) (runs next told mine r (owns next told mine l))
+  pub meet : (l : List C) (s r : S) → R s r → R (runs next s l) (runs next r (owns mine l))
   unfolding runs owns
   meet [] s r h = h
   meet (c ∷ l) s r h =
@@ -51,7 +50,7 @@ module _ {S C A : Type 0} (next : S → C → S) (told : S → C → A) (mine : 
       (λ e. rw e (meet l (next s c) r (other-step s r c h e)))
 
   -- and the own calls are told the same
-  pub alike : (l : List C) (s r : S) → R s r → All₂ Same (heard next told mine s l) (heard next told mine r (owns next told mine l))
+  pub alike : (l : List C) (s r : S) → R s r → All₂ Same (heard next told mine s l) (heard next told mine r (owns mine l))
   unfolding heard owns
   alike [] s r h = tt
   alike (c ∷ l) s r h =
@@ -66,7 +65,7 @@ module _ {S C A : Type 0} (next : S → C → S) (told : S → C → A) (mine : 
       (shown : (s r s′ r′ : S) → R s s′ → R r r′ → ((c : C) → mine c ≡ true → Same (told s c) (told r c)) → Shows s′ r′) where
     abbrev pub AlikeAfter : S → S → Type 0
     AlikeAfter s r =
-        (l m : List C) → owns next told mine l ≡ owns next told mine m
+        (l m : List C) → owns mine l ≡ owns mine m
         → All₂ Same (heard next told mine s l) (heard next told mine r m)
 
     -- a list of one own call tells what that call is told
@@ -76,17 +75,17 @@ module _ {S C A : Type 0} (next : S → C → S) (told : S → C → A) (mine : 
 
     related-alike : (s r : S) → R s r → R r r → AlikeAfter s r
     related-alike s r h g l m e =
-        all-join Same join (heard next told mine s l) (heard next told mine r m) (heard next told mine r (owns next told mine l))
+        all-join Same join (heard next told mine s l) (heard next told mine r m) (heard next told mine r (owns mine l))
         (alike l s r h) (rw e (alike m r r g))
 
     pub rule : (start : S) → R start start → (h k : List C)
-        → AlikeAfter (runs next told mine start h) (runs next told mine start k)
-        ↔ Shows (runs next told mine start (owns next told mine h)) (runs next told mine start (owns next told mine k))
+        → AlikeAfter (runs next start h) (runs next start k)
+        ↔ Shows (runs next start (owns mine h)) (runs next start (owns mine k))
     rule start g h k =
-        let s = runs next told mine start h in
-        let r = runs next told mine start k in
-        let s′ = runs next told mine start (owns next told mine h) in
-        let r′ = runs next told mine start (owns next told mine k) in
+        let s = runs next start h in
+        let r = runs next start k in
+        let s′ = runs next start (owns mine h) in
+        let r′ = runs next start (owns mine k) in
         let sh : R s s′ = meet h start start g in
         let rk : R r r′ = meet k start start g in
         (λ a. shown s r s′ r′ sh rk (one-call s r a), λ w. related-alike s r (reveal s r s′ r′ sh rk w) (left r r′ rk))
