@@ -12,7 +12,7 @@ use Rattle.refusal.specs.Reply.{Test, unless}
 use Rattle.board.specs.declared.Board.{Board}
 use Rattle.calls.specs.Table.{State}
 use Rattle.calls.specs.Calls.{Done, withActive, recolour, called, settle}
-use Rattle.marshal.specs.Words.{wordsFrom, boardOf, boardWords, wordsLeft, lent}
+use Rattle.marshal.specs.Words.{wordsFrom, boardOf, boardWords, wordsAfter, wordsLeft, lent}
 
 taken : (ws : List ℕ) (n k : ℕ) → k + n ≤ length ws → take n (drop k ws) ≡ wordsFrom k n ws
 taken ws zero k h = refl
@@ -76,3 +76,15 @@ words-stand ws table moves d c =
     let b : Board = withActive (boardOf ws) d c in
     let long : length (b .active) ≡ 8 = simp length-set in
     settled (lent ws table) ws _ _ refl (board-back b refl long)
+
+-- an accepted recolouring leaves a board with the new active set, so that one new word is all that there is to write
+left : (s : State) (ws : List ℕ) (ts : List Test) (done : Done)
+    → wordsAfter (settle s (unless ts done) .reply) (done .next .board) ws ≡ wordsLeft (settle s (unless ts done)) ws
+unfolding settle unless
+left s ws [] done = refl
+left s ws (t ∷ ts) done = cases (t .fails) (λ e. rw e) (λ e. rw e (left s ws ts done))
+
+pub words-left : (ws table moves : List ℕ) (d c : ℕ)
+    → wordsAfter (recolour (lent ws table) d c moves .reply) (withActive (boardOf ws) d c) ws ≡ wordsLeft (recolour (lent ws table) d c moves) ws
+unfolding recolour called
+words-left ws table moves d c = left (lent ws table) ws _ _
