@@ -3,12 +3,12 @@ use Prim.Native.Nat.{ℕ, _+_, _-_, _*_, _<_, _≤_}
 use native.Mathlib.Omega.{arith}
 use mathlib.Core.List.{List}
 use mathlib.Core.Path.{_≡_, refl, sym, ap, _∙_}
-use lib.ListN.{length, take, drop, getD, length-append, length-drop}
+use lib.ListN.{length, take, drop, getD, length-drop}
 use lib.Seq.{sets, length-take-le, getD-take, getD-drop}
 use borrow.Author.Needs.{needs}
-use Rattle.report.specs.Text.{line, linesFrom}
+use Rattle.report.specs.Text.{linesFrom}
 use Rattle.report.proofs.Decimal.{decimal-length}
-use Rattle.report.proofs.Lines.{sets-append, lines-next, lines-end}
+use Rattle.report.proofs.Lines.{line-more, lines-end}
 use Rattle.report.proofs.text.write_lines.Statement.{statement}
 use Rattle.report.proofs.text.write_lines.Tie as tie
 
@@ -27,6 +27,11 @@ part s = take (s .args .rows) (drop (s .args .first) (s .args .times .now))
 
 long-part : (s : tie.Start Inv-loop μ-loop) → length (part s) ≡ s .args .rows
 long-part s = length-take-le (s .args .rows) (drop (s .args .first) (s .args .times .now)) (simp length-drop (omega (arith, s .pre)))
+
+time : (s : tie.Start Inv-loop μ-loop) (row : ℕ) → row < s .args .rows → getD (s .args .times .now) (s .args .first + row) 0 ≡ getD (part s) row 0
+time s row h =
+    let from : List ℕ = drop (s .args .first) (s .args .times .now) in
+    sym (getD-take (s .args .rows) from row 0 h ∙ getD-drop (s .args .first) (s .args .times .now) row 0)
 
 loop-holds : tie.Need-loop-holds Inv-loop μ-loop
 loop-holds c = (omega arith, refl, omega arith, refl, refl)
@@ -63,22 +68,13 @@ loop-again c =
     let s = c .before .before .before .before .before .before .before .before .before .before in
     let h = c .before .before .before .before .before .before .loop in
     let w = c .before .before .write-line in
-    let name : List ℕ = s .args .name .now in
-    let times : List ℕ = part s in
-    let here : h .row < length times = omega (arith, long-part s) in
-    let time : getD (s .args .times .now) (s .args .first + h .row) 0 ≡ getD times (h .row) 0 =
-    sym (getD-take (s .args .rows) (drop (s .args .first) (s .args .times .now)) (h .row) 0 (omega arith) ∙ getD-drop (s .args .first) (s .args .times .now) (h .row) 0) in
-    let more = lines-next name times (h .row) here in
-    let rest : List ℕ = linesFrom name (h .row + 1) (drop (h .row + 1) times) in
-    let this : List ℕ = line name (h .row) (getD times (h .row) 0) in
-    let size : w .result ≡ h .end + length this = w .ensures .0 .0 ∙ ap (λ (n : ℕ). h .end + length (line name (h .row) n)) time in
-    let long : length (linesFrom name (h .row) (drop (h .row) times)) ≡ length this + length rest = ap (λ (l : List ℕ). length l) more ∙ length-append this rest in (
+    let more =
+    line-more (s .args .name .now) (part s) (h .text) (w .last .0) (h .row) _ (h .end) (w .result) (omega (arith, long-part s)) (time s (h .row) (omega arith)) (w .ensures .0 .0) (w .ensures .1) in (
       omega arith,
       w .kept .0 ∙ h .inv .1,
       omega (arith, s .pre, h .inv .2, w .ensures .0, decimal-length 1 (h .row) (omega (arith, s .pre))),
-      omega (arith, h .inv .3, size),
-      h .inv .4 ∙ ap (λ (l : List ℕ). sets (h .text) (h .end) l) more ∙ sym (sets-append this rest (h .text) (h .end) (w .result) size)
-          ∙ ap (λ (l : List ℕ). sets l (w .result) rest) (sym (w .ensures .1 ∙ ap (λ (n : ℕ). sets (h .text) (h .end) (line name (h .row) n)) time)),
+      h .inv .3 ∙ more .0,
+      h .inv .4 ∙ more .1,
     )
 
 same-length : tie.Need-same-length Inv-loop μ-loop
