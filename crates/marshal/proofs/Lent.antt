@@ -12,7 +12,7 @@ use Rattle.refusal.specs.Reply.{Test, unless}
 use Rattle.board.specs.declared.Board.{Board}
 use Rattle.calls.specs.Table.{State}
 use Rattle.calls.specs.Calls.{Done, withActive, recolour, called, settle}
-use Rattle.juzvanec.specs.Words.{wordsFrom, boardOf, boardWords, wordsLeft, lent}
+use Rattle.marshal.specs.Words.{wordsFrom, boardOf, boardWords, wordsAfter, wordsLeft, lent}
 
 taken : (ws : List ℕ) (n k : ℕ) → k + n ≤ length ws → take n (drop k ws) ≡ wordsFrom k n ws
 taken ws zero k h = refl
@@ -22,6 +22,13 @@ taken ws (suc n) k h =
 
 pub whole : (ws : List ℕ) (n : ℕ) → length ws ≡ n → wordsFrom 0 n ws ≡ ws
 whole ws n e = sym (taken ws n 0 (omega arith)) ∙ take-all n ws (omega arith)
+
+pub word-at : (ws : List ℕ) (n k i : ℕ) → i < n → getD (wordsFrom k n ws) i 0 ≡ getD ws (k + i) 0
+word-at ws zero k i h = omega (arith, h)
+word-at ws (suc n) k zero h = ap (λ (j : ℕ). getD ws j 0) (omega arith)
+word-at ws (suc n) k (suc i) h =
+    let e : suc k + i ≡ k + suc i = omega arith in
+    word-at ws n (suc k) i (omega arith) ∙ ap (λ (j : ℕ). getD ws j 0) e
 
 -- a board that is written back where it was read changes nothing
 pub words-back : (ws : List ℕ) → length ws ≡ 19 → boardWords (boardOf ws) ≡ ws
@@ -69,3 +76,15 @@ words-stand ws table moves d c =
     let b : Board = withActive (boardOf ws) d c in
     let long : length (b .active) ≡ 8 = simp length-set in
     settled (lent ws table) ws _ _ refl (board-back b refl long)
+
+-- an accepted recolouring leaves a board with the new active set, so that one new word is all that there is to write
+left : (s : State) (ws : List ℕ) (ts : List Test) (done : Done)
+    → wordsAfter (settle s (unless ts done) .reply) (done .next .board) ws ≡ wordsLeft (settle s (unless ts done)) ws
+unfolding settle unless
+left s ws [] done = refl
+left s ws (t ∷ ts) done = cases (t .fails) (λ e. rw e) (λ e. rw e (left s ws ts done))
+
+pub words-left : (ws table moves : List ℕ) (d c : ℕ)
+    → wordsAfter (recolour (lent ws table) d c moves .reply) (withActive (boardOf ws) d c) ws ≡ wordsLeft (recolour (lent ws table) d c moves) ws
+unfolding recolour called
+words-left ws table moves d c = left (lent ws table) ws _ _

@@ -4,7 +4,7 @@ use Prim.Native.Nat.{ℕ}
 use mathlib.Core.Path.{_≡_}
 use Rattle.refusal.specs.Reply.{Reply, Answers, Refuses}
 use Rattle.calls.specs.Calls.{Answer, Mapped, Unmapped, Old, New, Freed, Active, Moved}
-use Rattle.juzvanec.specs.declared.replies.Told.{Told}
+use Rattle.marshal.specs.declared.replies.Told.{Told}
 
 module _ {A : Type 0} where
   abbrev pub numberOf : Reply A → ℕ
@@ -20,18 +20,18 @@ module _ {A : Type 0} where
   valueOf f (Answers a) = f a
   valueOf f (Refuses n r) = 0
 
-  -- a struct tells a reply: its number, its row and a number of its answer
-  pub record Tells (f : A → ℕ) (reply : Reply A) (told : Told) : Type 0 where
+  -- a struct tells a reply: its number, its row and two numbers of its answer
+  pub record Tells (f g : A → ℕ) (reply : Reply A) (told : Told) : Type 0 where
     pub number : told .number ≡ numberOf reply
     pub row : told .row ≡ rowOf reply
     pub value : told .value ≡ valueOf f reply
+    pub flag : told .flag ≡ valueOf g reply
 
--- an answer that is a number, and one that has none
+  abbrev pub nothing : A → ℕ
+  nothing a = 0
+
 abbrev pub itself : ℕ → ℕ
 itself n = n
-
-abbrev pub nothing : Unit {0} → ℕ
-nothing a = 0
 
 -- the frame, the set or the count of moves that a frame call answers; 0 for unmapped
 abbrev pub numberIn : Answer → ℕ
