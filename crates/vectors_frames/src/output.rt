@@ -7,26 +7,14 @@ use frames::Faulted;
 use frames::Looked;
 use frames::Moved;
 use frames::Released;
-use refusal::Refusal;
-
-fn line(name: &[u8], number: u32) {
-    io::write_all(1, name);
-    io::print_decimal(1, number as u64);
-    io::write_all(1, b"\n");
-}
-
-fn refused(refusal: Refusal) {
-    io::write_all(1, b"refused ");
-    io::print_decimal(1, refusal.number as u64);
-    line(b" ", refusal.row);
-}
+use vectors_input::line;
+use vectors_input::part;
+use vectors_input::refused;
 
 pub fn looked(answer: Looked) {
     match answer {
         Looked::Frame(frame) => line(b"mapped ", frame),
-        Looked::Unmapped => {
-            io::write_all(1, b"unmapped\n");
-        }
+        Looked::Unmapped => vectors_input::text(b"unmapped\n"),
         Looked::Refused(refusal) => refused(refusal),
     }
 }
@@ -68,25 +56,16 @@ pub fn moved(answer: Moved) -> u32 {
 }
 
 pub fn table(words: &[u16]) {
-    io::write_all(1, b"table ");
-    io::print_decimal(1, hash::words(words));
-    io::write_all(1, b"\n");
+    line(b"table ", vectors_input::hash_table(words));
 }
 
 pub fn moves(board: Board, list: &[u16], count: u32) {
     let triples = count as usize;
-    if 4333 < triples {
+    if list.len() / 3 < triples {
         return;
     }
     let end = 3 * triples;
-    if list.len() < end {
-        return;
-    }
-    io::write_all(1, b"board ");
-    io::print_decimal(1, hash::board(board));
-    io::write_all(1, b" moves ");
-    io::print_decimal(1, hash::triples(list, triples));
-    io::write_all(1, b" rest ");
-    io::print_decimal(1, hash::words(&list[end..]));
-    io::write_all(1, b"\n");
+    part(b"board ", hash::board(board) as u64);
+    part(b" moves ", hash::triples(list, triples));
+    line(b" rest ", vectors_input::hash_table(&list[end..]));
 }

@@ -1,14 +1,13 @@
--- `vectors_admit::main` is safe and ends: each turn answers one case.
-use Prim.Native.Nat.{_≤_, _-_}
+-- `vectors_admit::main` is safe and ends: each turn answers one case, and the measure is how many are left.
 use borrow.Author.Needs.{needs}
 use Rattle.vectors_admit.proofs.main.Statement.{statement}
 use Rattle.vectors_admit.proofs.main.Tie as tie
 
 abbrev Inv-loop : tie.InvT-loop
-Inv-loop cases done₀ done = done ≤ cases
+Inv-loop left₀ left = Unit {0}
 
 abbrev μ-loop : tie.MeasureT-loop
-μ-loop cases done₀ done = cases - done
+μ-loop left₀ left = left
 
 next-word-requires : tie.Need-next-word-requires Inv-loop μ-loop
 next-word-requires c κs = search needs
@@ -19,8 +18,8 @@ loop-holds c = search needs
 answer-requires : tie.Need-answer-requires Inv-loop μ-loop
 answer-requires c κs = search needs
 
-add-done : tie.Need-add-done Inv-loop μ-loop
-add-done c = search needs
+sub-left : tie.Need-sub-left Inv-loop μ-loop
+sub-left c = search needs
 
 loop-less : tie.Need-loop-less Inv-loop μ-loop
 loop-less c = search needs
@@ -40,7 +39,7 @@ main-spec =
     next-word-requires
     loop-holds
     answer-requires
-    add-done
+    sub-left
     loop-less
     loop-again
     returns)

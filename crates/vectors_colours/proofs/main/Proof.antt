@@ -1,39 +1,37 @@
 -- `vectors_colours::main` is safe and ends: each turn answers one case, and the measure is how many are left.
-use Prim.Native.Nat.{_≤_, _-_}
-use native.Mathlib.Omega.{arith}
 use borrow.Author.Needs.{needs}
 use Rattle.vectors_colours.proofs.main.Statement.{statement}
 use Rattle.vectors_colours.proofs.main.Tie as tie
 
 abbrev Inv-loop : tie.InvT-loop
-Inv-loop cases done₀ done = done ≤ cases
+Inv-loop left₀ left = Unit {0}
 
 abbrev μ-loop : tie.MeasureT-loop
-μ-loop cases done₀ done = cases - done
+μ-loop left₀ left = left
 
-next-case-requires : tie.Need-next-case-requires Inv-loop μ-loop
-next-case-requires c κs = search needs
+slice-aggregate-next-words : tie.Need-slice-aggregate-next-words Inv-loop μ-loop
+slice-aggregate-next-words c = search needs
 
-word-requires : tie.Need-word-requires Inv-loop μ-loop
-word-requires c κs = search needs
+next-words-requires : tie.Need-next-words-requires Inv-loop μ-loop
+next-words-requires c κs = search needs
+
+array-read-left : tie.Need-array-read-left Inv-loop μ-loop
+array-read-left c = search needs
 
 loop-holds : tie.Need-loop-holds Inv-loop μ-loop
-loop-holds c = omega arith
+loop-holds c = search needs
 
-next-case-requires-2 : tie.Need-next-case-requires-2 Inv-loop μ-loop
-next-case-requires-2 c κs = search needs
+case-requires : tie.Need-case-requires Inv-loop μ-loop
+case-requires c κs = search needs
 
-answer-requires : tie.Need-answer-requires Inv-loop μ-loop
-answer-requires c κs = search needs
-
-add-done : tie.Need-add-done Inv-loop μ-loop
-add-done c = omega arith
+sub-left : tie.Need-sub-left Inv-loop μ-loop
+sub-left c = search needs
 
 loop-less : tie.Need-loop-less Inv-loop μ-loop
-loop-less c = omega arith
+loop-less c = search needs
 
 loop-again : tie.Need-loop-again Inv-loop μ-loop
-loop-again c = omega arith
+loop-again c = search needs
 
 returns : tie.Need-returns Inv-loop μ-loop
 returns c = search needs
@@ -44,12 +42,12 @@ main-spec =
     (tie.spec
     Inv-loop
     μ-loop
-    next-case-requires
-    word-requires
+    slice-aggregate-next-words
+    next-words-requires
+    array-read-left
     loop-holds
-    next-case-requires-2
-    answer-requires
-    add-done
+    case-requires
+    sub-left
     loop-less
     loop-again
     returns)

@@ -1,5 +1,4 @@
 -- `vectors_frames::calls` is safe and ends: each turn answers one call, and the measure is how many are left.
-use Prim.Native.Nat.{_≤_, _-_}
 use mathlib.Core.Path.{_≡_}
 use lib.ListN.{length}
 use borrow.Author.Needs.{needs}
@@ -7,22 +6,22 @@ use Rattle.vectors_frames.proofs.calls.Statement.{statement}
 use Rattle.vectors_frames.proofs.calls.Tie as tie
 
 abbrev Inv-loop : tie.InvT-loop
-Inv-loop table₀ count board₀ done₀ table board done = (done ≤ count) × (length table ≡ length table₀)
+Inv-loop table₀ board₀ left₀ table board left = length table ≡ length table₀
 
 abbrev μ-loop : tie.MeasureT-loop
-μ-loop table₀ count board₀ done₀ table board done = count - done
+μ-loop table₀ board₀ left₀ table board left = left
+
+next-word-requires : tie.Need-next-word-requires Inv-loop μ-loop
+next-word-requires c κs = search needs
 
 loop-holds : tie.Need-loop-holds Inv-loop μ-loop
 loop-holds c = search needs
 
-next-request-requires : tie.Need-next-request-requires Inv-loop μ-loop
-next-request-requires c κs = search needs
-
 answer-requires : tie.Need-answer-requires Inv-loop μ-loop
 answer-requires c κs = search needs
 
-add-done : tie.Need-add-done Inv-loop μ-loop
-add-done c = search needs
+sub-left : tie.Need-sub-left Inv-loop μ-loop
+sub-left c = search needs
 
 loop-less : tie.Need-loop-less Inv-loop μ-loop
 loop-less c = search needs
@@ -42,10 +41,10 @@ calls-spec =
     (tie.spec
     Inv-loop
     μ-loop
+    next-word-requires
     loop-holds
-    next-request-requires
     answer-requires
-    add-done
+    sub-left
     loop-less
     loop-again
     same-length

@@ -1,14 +1,13 @@
--- `vectors_frames::main` is safe and ends: each turn runs one script.
-use Prim.Native.Nat.{_≤_, _-_}
+-- `vectors_frames::main` is safe and ends: each turn runs one script, and the measure is how many are left.
 use borrow.Author.Needs.{needs}
 use Rattle.vectors_frames.proofs.main.Statement.{statement}
 use Rattle.vectors_frames.proofs.main.Tie as tie
 
 abbrev Inv-loop : tie.InvT-loop
-Inv-loop scripts done₀ done = done ≤ scripts
+Inv-loop left₀ left = Unit {0}
 
 abbrev μ-loop : tie.MeasureT-loop
-μ-loop scripts done₀ done = scripts - done
+μ-loop left₀ left = left
 
 next-word-requires : tie.Need-next-word-requires Inv-loop μ-loop
 next-word-requires c κs = search needs
@@ -19,8 +18,8 @@ loop-holds c = search needs
 script-requires : tie.Need-script-requires Inv-loop μ-loop
 script-requires c κs = search needs
 
-add-done : tie.Need-add-done Inv-loop μ-loop
-add-done c = search needs
+sub-left : tie.Need-sub-left Inv-loop μ-loop
+sub-left c = search needs
 
 loop-less : tie.Need-loop-less Inv-loop μ-loop
 loop-less c = search needs
@@ -40,7 +39,7 @@ main-spec =
     next-word-requires
     loop-holds
     script-requires
-    add-done
+    sub-left
     loop-less
     loop-again
     returns)

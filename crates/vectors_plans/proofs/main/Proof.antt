@@ -1,14 +1,13 @@
--- `vectors_plans::main` is safe and ends: each turn answers one case.
-use Prim.Native.Nat.{_≤_, _-_}
+-- `vectors_plans::main` is safe and ends: each turn answers one case, and the measure is how many are left.
 use borrow.Author.Needs.{needs}
 use Rattle.vectors_plans.proofs.main.Statement.{statement}
 use Rattle.vectors_plans.proofs.main.Tie as tie
 
 abbrev Inv-loop : tie.InvT-loop
-Inv-loop cases done₀ done = done ≤ cases
+Inv-loop left₀ left = Unit {0}
 
 abbrev μ-loop : tie.MeasureT-loop
-μ-loop cases done₀ done = cases - done
+μ-loop left₀ left = left
 
 next-word-requires : tie.Need-next-word-requires Inv-loop μ-loop
 next-word-requires c κs = search needs
@@ -16,14 +15,11 @@ next-word-requires c κs = search needs
 loop-holds : tie.Need-loop-holds Inv-loop μ-loop
 loop-holds c = search needs
 
-next-word-requires-2 : tie.Need-next-word-requires-2 Inv-loop μ-loop
-next-word-requires-2 c κs = search needs
-
 answer-requires : tie.Need-answer-requires Inv-loop μ-loop
 answer-requires c κs = search needs
 
-add-done : tie.Need-add-done Inv-loop μ-loop
-add-done c = search needs
+sub-left : tie.Need-sub-left Inv-loop μ-loop
+sub-left c = search needs
 
 loop-less : tie.Need-loop-less Inv-loop μ-loop
 loop-less c = search needs
@@ -42,9 +38,8 @@ main-spec =
     μ-loop
     next-word-requires
     loop-holds
-    next-word-requires-2
     answer-requires
-    add-done
+    sub-left
     loop-less
     loop-again
     returns)

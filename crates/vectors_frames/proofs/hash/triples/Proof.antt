@@ -1,11 +1,11 @@
--- `vectors_frames::hash::triples` is safe and ends: each triple adds less than 2^32.
-use Prim.Native.Nat.{_≤_, _-_, _*_}
+-- `vectors_frames::hash::triples` is safe and ends.
+use Prim.Native.Nat.{_≤_, _-_}
 use borrow.Author.Needs.{needs}
 use Rattle.vectors_frames.proofs.hash.triples.Statement.{statement}
 use Rattle.vectors_frames.proofs.hash.triples.Tie as tie
 
 abbrev Inv-loop : tie.InvT-loop
-Inv-loop list count sum₀ i₀ sum i = (i ≤ count) × (sum ≤ i * 4294967296)
+Inv-loop list count sum₀ i₀ sum i = i ≤ count
 
 abbrev μ-loop : tie.MeasureT-loop
 μ-loop list count sum₀ i₀ sum i = count - i
@@ -19,8 +19,8 @@ mul-triple c = search needs
 triple-requires : tie.Need-triple-requires Inv-loop μ-loop
 triple-requires c κs = search needs
 
-add-sum : tie.Need-add-sum Inv-loop μ-loop
-add-sum c = search needs
+wrapping-add-u64-requires : tie.Need-wrapping-add-u64-requires Inv-loop μ-loop
+wrapping-add-u64-requires c κs = search needs
 
 add-i : tie.Need-add-i Inv-loop μ-loop
 add-i c = search needs
@@ -43,7 +43,7 @@ triples-spec =
     loop-holds
     mul-triple
     triple-requires
-    add-sum
+    wrapping-add-u64-requires
     add-i
     loop-less
     loop-again

@@ -1,32 +1,29 @@
--- `vectors_frames::input::fill` is safe and ends.
-use Prim.Native.Nat.{_≤_, _<_, _-_}
+-- `vectors_input::words::next_words` is safe and ends.
+use Prim.Native.Nat.{_≤_, _-_}
 use mathlib.Core.Path.{_≡_}
 use lib.ListN.{length, length-set}
 use native.Mathlib.Omega.{arith}
 use borrow.Author.Needs.{needs}
-use Rattle.vectors_frames.proofs.input.fill.Statement.{statement}
-use Rattle.vectors_frames.proofs.input.fill.Tie as tie
+use Rattle.vectors_input.proofs.words.next_words.Statement.{statement}
+use Rattle.vectors_input.proofs.words.next_words.Tie as tie
 
 abbrev Inv-loop : tie.InvT-loop
-Inv-loop list₀ word₀ i₀ list word i = (i ≤ length list) × (word < 65536) × (length list ≡ length list₀)
+Inv-loop list₀ i₀ list i = (i ≤ length list) × (length list ≡ length list₀)
 
 abbrev μ-loop : tie.MeasureT-loop
-μ-loop list₀ word₀ i₀ list word i = length list - i
+μ-loop list₀ i₀ list i = length list - i
 
 loop-holds : tie.Need-loop-holds Inv-loop μ-loop
 loop-holds c = search needs
 
-cast-list : tie.Need-cast-list Inv-loop μ-loop
-cast-list c = search needs
+next-word-requires : tie.Need-next-word-requires Inv-loop μ-loop
+next-word-requires c κs = search needs
 
 mul-list : tie.Need-mul-list Inv-loop μ-loop
 mul-list c = search needs
 
 slice-write-list : tie.Need-slice-write-list Inv-loop μ-loop
 slice-write-list c = search needs
-
-add-word : tie.Need-add-word Inv-loop μ-loop
-add-word c = search needs
 
 add-i : tie.Need-add-i Inv-loop μ-loop
 add-i c = search needs
@@ -43,17 +40,16 @@ same-length c = search needs
 returns : tie.Need-returns Inv-loop μ-loop
 returns c = search needs
 
-pub fill-spec : {M : Type 1} → statement M
-fill-spec =
+pub next-words-spec : {M : Type 1} → statement M
+next-words-spec =
     tie.close
     (tie.spec
     Inv-loop
     μ-loop
     loop-holds
-    cast-list
+    next-word-requires
     mul-list
     slice-write-list
-    add-word
     add-i
     loop-less
     loop-again

@@ -1,15 +1,15 @@
--- `vectors_frames::hash::words` is safe and ends, and the hash stays below 2^32.
-use Prim.Native.Nat.{_≤_, _<_, _-_}
+-- `vectors_input::hash::hash_table` is safe and ends.
+use Prim.Native.Nat.{_≤_, _-_}
 use lib.ListN.{length}
 use borrow.Author.Needs.{needs}
-use Rattle.vectors_frames.proofs.hash.words.Statement.{statement}
-use Rattle.vectors_frames.proofs.hash.words.Tie as tie
+use Rattle.vectors_input.proofs.hash.hash_table.Statement.{statement}
+use Rattle.vectors_input.proofs.hash.hash_table.Tie as tie
 
 abbrev Inv-loop : tie.InvT-loop
-Inv-loop list h₀ i₀ h i = (i ≤ length list) × (h < 4294967296)
+Inv-loop table h₀ i₀ h i = i ≤ length table
 
 abbrev μ-loop : tie.MeasureT-loop
-μ-loop list h₀ i₀ h i = length list - i
+μ-loop table h₀ i₀ h i = length table - i
 
 loop-holds : tie.Need-loop-holds Inv-loop μ-loop
 loop-holds c = search needs
@@ -23,8 +23,8 @@ shared-slice-read-wide c = search needs
 wide-requires : tie.Need-wide-requires Inv-loop μ-loop
 wide-requires c κs = search needs
 
-hash-step-requires : tie.Need-hash-step-requires Inv-loop μ-loop
-hash-step-requires c κs = search needs
+step-requires : tie.Need-step-requires Inv-loop μ-loop
+step-requires c κs = search needs
 
 add-i : tie.Need-add-i Inv-loop μ-loop
 add-i c = search needs
@@ -38,8 +38,8 @@ loop-again c = search needs
 returns : tie.Need-returns Inv-loop μ-loop
 returns c = search needs
 
-pub words-spec : {M : Type 1} → statement M
-words-spec =
+pub hash-table-spec : {M : Type 1} → statement M
+hash-table-spec =
     tie.close
     (tie.spec
     Inv-loop
@@ -48,7 +48,7 @@ words-spec =
     mul-wide
     shared-slice-read-wide
     wide-requires
-    hash-step-requires
+    step-requires
     add-i
     loop-less
     loop-again
