@@ -2,11 +2,11 @@
 // words that `vectors_input` reads; output.rt writes the lines of each call. Tables, boards and move
 // lists are compared by a hash, the triples by a sum that does not depend on their order.
 use board::Board;
+use vectors_input::next_word;
 
-mod hash;
 mod output;
 
-// The move list that each recolouring is lent holds words that tell whether one was changed.
+// The move list that a recolouring is lent holds words that tell whether one was changed.
 fn recolour(board: Board, table: &mut [u16], domain: u32, set: u32) -> Board {
     let mut room = [0u16; 13000];
     let moves = vectors_input::marked_table(&mut room);
@@ -15,7 +15,8 @@ fn recolour(board: Board, table: &mut [u16], domain: u32, set: u32) -> Board {
     let after = done.board;
     let count = output::moved(answer);
     output::table(table);
-    output::moves(after, moves, count);
+    output::board(after);
+    output::moves(moves, count);
     after
 }
 
@@ -29,39 +30,34 @@ fn answer_on(board: Board, table: &mut [u16], operation: u32, domain: u32, page:
     }
 }
 
-// A call's four words: the operation, the domain, a page or a set, and the length of the move list, which
-// only a recolouring uses. Only a recolouring changes the board.
+// A call's words are the operation, the domain, a page or a set, and the length of the move list, which
+// every call has and a recolouring alone uses.
 fn answer(board: Board, table: &mut [u16]) -> Board {
-    let operation = vectors_input::next_word();
-    let domain = vectors_input::next_word();
-    let argument = vectors_input::next_word();
+    let operation = next_word();
+    let domain = next_word();
+    let argument = next_word();
     if 3 < operation {
         return recolour(board, table, domain, argument);
     }
-    vectors_input::next_word();
+    next_word();
     answer_on(board, table, operation, domain, argument);
     output::table(table);
     board
 }
 
-fn calls(first: Board, table: &mut [u16]) {
-    let mut board = first;
-    let mut left = vectors_input::next_word();
+fn script() {
+    let mut board = vectors_input::next_board();
+    let mut room = [0u16; 4200];
+    let table = vectors_input::next_table(&mut room);
+    let mut left = next_word();
     while 0 < left {
         board = answer(board, table);
         left -= 1;
     }
 }
 
-fn script() {
-    let board = vectors_input::next_board();
-    let mut room = [0u16; 4200];
-    let table = vectors_input::next_table(&mut room);
-    calls(board, table);
-}
-
 fn main() {
-    let mut left = vectors_input::next_word();
+    let mut left = next_word();
     while 0 < left {
         script();
         left -= 1;

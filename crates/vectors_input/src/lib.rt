@@ -4,6 +4,7 @@ mod hash;
 mod lines;
 mod words;
 
+ghost use Prim.Native.Nat.{_≤_};
 pub use hash::hash_table;
 pub use hash::hash_words;
 pub use lines::line;
@@ -18,3 +19,9 @@ pub use words::next_list;
 pub use words::next_table;
 pub use words::next_word;
 pub use words::next_words;
+
+fn least(a: usize, b: usize) -> usize
+    ensures { λ r. ⌜ r ≤ b ⌝ }
+{
+    if a < b { a } else { b }
+}

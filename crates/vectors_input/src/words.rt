@@ -1,25 +1,25 @@
 // The words of the input, little-endian 32-bit numbers on standard input, and the lists that they fill.
 ghost use Prim.Native.Nat.{_<_, _≤_};
+use crate::least;
 use board::Board;
 
-fn wide(byte: u8) -> u32
-    ensures { λ r. ⌜ r < 256 ⌝ }
+fn pair(low: u8, high: u8) -> u32
+    ensures { λ r. ⌜ r < 65536 ⌝ }
 {
-    byte as u32
+    low as u32 + 256 * (high as u32)
 }
 
 pub fn next_word() -> u32 {
     let mut bytes = [0u8; 4];
     io::read_full(0, &mut bytes);
-    wide(bytes[0]) + 256 * wide(bytes[1]) + 65536 * wide(bytes[2]) + 16777216 * wide(bytes[3])
+    pair(bytes[0], bytes[1]) + 65536 * pair(bytes[2], bytes[3])
 }
 
-// A word that counts something, or the most that is allowed.
+// The word that comes next, or the most that it may be.
 fn next_below(most: usize) -> usize
     ensures { λ r. ⌜ r ≤ most ⌝ }
 {
-    let count = next_word() as usize;
-    if count <= most { count } else { most }
+    least(next_word() as usize, most)
 }
 
 fn half(word: u32) -> u16 {
@@ -86,18 +86,14 @@ pub fn marked_table(room: &mut [u16]) -> &mut [u16] {
     &mut room[..count]
 }
 
-fn next_eight() -> [u32; 8] {
-    let mut words = [0u32; 8];
-    next_words(&mut words);
-    words
-}
-
 pub fn next_board() -> Board {
     let colours = next_word();
     let frames = next_word();
     let domains = next_word();
-    let grants = next_eight();
-    let active = next_eight();
+    let mut grants = [0u32; 8];
+    next_words(&mut grants);
+    let mut active = [0u32; 8];
+    next_words(&mut active);
     Board {
         colours,
         frames,

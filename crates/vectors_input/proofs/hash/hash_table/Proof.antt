@@ -6,10 +6,13 @@ use Rattle.vectors_input.proofs.hash.hash_table.Statement.{statement}
 use Rattle.vectors_input.proofs.hash.hash_table.Tie as tie
 
 abbrev Inv-loop : tie.InvT-loop
-Inv-loop table h₀ i₀ h i = i ≤ length table
+Inv-loop table from to end h₀ i₀ h i = end ≤ length table
 
 abbrev μ-loop : tie.MeasureT-loop
-μ-loop table h₀ i₀ h i = length table - i
+μ-loop table from to end h₀ i₀ h i = end - i
+
+least-requires : tie.Need-least-requires Inv-loop μ-loop
+least-requires c κs = search needs
 
 loop-holds : tie.Need-loop-holds Inv-loop μ-loop
 loop-holds c = search needs
@@ -44,6 +47,7 @@ hash-table-spec =
     (tie.spec
     Inv-loop
     μ-loop
+    least-requires
     loop-holds
     mul-wide
     shared-slice-read-wide
