@@ -4,8 +4,8 @@ use colours::Bleached;
 use colours::ColourCount;
 use colours::Laid;
 use refusal::RowNames;
-use vectors_input::line;
 use vectors_input::next_word;
+use vectors_input::number;
 use vectors_input::refused;
 use vectors_input::text;
 
@@ -23,42 +23,38 @@ fn row_names(number: u32) {
 
 fn cache(bytes: u64, ways: u64) {
     match colours::cache_colours(bytes, ways) {
-        ColourCount::Colours(count) => line(b"", count),
+        ColourCount::Colours(count) => number(count as u64),
         ColourCount::Refused(refusal) => refused(refusal),
     }
 }
 
 fn layout(count: u32, set: u32, index: u32) {
     match colours::layout(count, set, index) {
-        Laid::Page(page) => line(b"", page),
+        Laid::Page(page) => number(page as u64),
         Laid::Refused(refusal) => refused(refusal),
     }
 }
 
 fn bleach(count: u32, set: u32, page: u32) {
     match colours::bleach(count, set, page) {
-        Bleached::Index(index) => line(b"", index),
+        Bleached::Index(index) => number(index as u64),
         Bleached::Refused(refusal) => refused(refusal),
     }
 }
 
-fn answer(operation: u32, a: u32, b: u32, c: u32, d: u32) {
-    match operation {
-        1 => cache(long_word(a, b), long_word(c, d)),
-        2 => layout(a, b, c),
-        3 => bleach(a, b, c),
-        4 => line(b"", colours::drop_colour_bits(a, b, c)),
-        _ => row_names(a),
-    }
-}
-
-fn case() {
+fn answer() {
     let operation = next_word();
     let a = next_word();
     let b = next_word();
     let c = next_word();
     let d = next_word();
-    answer(operation, a, b, c, d);
+    match operation {
+        1 => cache(long_word(a, b), long_word(c, d)),
+        2 => layout(a, b, c),
+        3 => bleach(a, b, c),
+        4 => number(colours::drop_colour_bits(a, b, c) as u64),
+        _ => row_names(a),
+    }
 }
 
 fn main() {
@@ -66,7 +62,7 @@ fn main() {
     vectors_input::next_words(&mut first);
     let mut left = first[0];
     while 0 < left {
-        case();
+        answer();
         left -= 1;
     }
 }

@@ -8,6 +8,7 @@ ghost use Prim.Native.Nat.{_≤_};
 pub use hash::hash_table;
 pub use hash::hash_words;
 pub use lines::line;
+pub use lines::number;
 pub use lines::part;
 pub use lines::refused;
 pub use lines::text;

@@ -1,19 +1,25 @@
-// What a line of output is made of: a text, a text with a number after it, and a refusal.
+// What lines of output are made of: a text, a number, and a refusal.
 use refusal::Refusal;
 
 pub fn text(bytes: &[u8]) {
     io::write_all(1, bytes);
 }
 
-// A line's text and number, without the end of the line.
-pub fn part(name: &[u8], number: u64) {
-    io::write_all(1, name);
-    io::print_decimal(1, number);
+// A number that ends its line.
+pub fn number(value: u64) {
+    io::print_decimal(1, value);
+    text(b"\n");
 }
 
-pub fn line(name: &[u8], number: u32) {
-    part(name, number as u64);
-    text(b"\n");
+pub fn line(name: &[u8], value: u32) {
+    text(name);
+    number(value as u64);
+}
+
+// The first part of a line, or a middle one.
+pub fn part(name: &[u8], value: u64) {
+    text(name);
+    io::print_decimal(1, value);
 }
 
 pub fn refused(refusal: Refusal) {

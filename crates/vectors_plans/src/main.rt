@@ -26,15 +26,17 @@ fn part_case() {
     let vcpu = vectors_input::next_word();
     let mut room = [0u32; 700];
     let tasks = vectors_input::next_list(&mut room);
-    output::part_of_tasks(plan::part(tasks, vcpu));
+    let own = plan::part(tasks, vcpu);
+    vectors_input::part(b"part ", own.len() as u64);
+    vectors_input::line(b" ", vectors_input::hash_words(0, own));
 }
 
 fn supply_case() {
     let period = vectors_input::next_word();
     let budget = vectors_input::next_word();
     let t = vectors_input::next_word();
-    vectors_input::part(b"supply ", supply::least(period, budget, t));
-    vectors_input::text(b"\n");
+    vectors_input::text(b"supply ");
+    vectors_input::number(supply::least(period, budget, t));
 }
 
 fn answer() {

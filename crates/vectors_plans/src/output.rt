@@ -45,8 +45,3 @@ pub fn admission(answer: Admission, list: &[u32], rows: usize) {
         }
     }
 }
-
-pub fn part_of_tasks(own: &[u32]) {
-    part(b"part ", own.len() as u64);
-    line(b" ", vectors_input::hash_words(0, own));
-}

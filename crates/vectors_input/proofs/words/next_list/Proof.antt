@@ -5,18 +5,11 @@ use borrow.Author.Needs.{needs}
 use Rattle.vectors_input.proofs.words.next_list.Statement.{statement}
 use Rattle.vectors_input.proofs.words.next_list.Tie as tie
 
-next-below-requires : tie.Need-next-below-requires
-next-below-requires c κs = search needs
-
-slice-aggregate-list : tie.Need-slice-aggregate-list
-slice-aggregate-list c = simp length-take (omega arith)
-
-next-words-requires : tie.Need-next-words-requires
-next-words-requires c κs = search needs
-
-returns : tie.Need-returns
-returns c = search needs
-
 pub next-list-spec : {M : Type 1} → statement M
 next-list-spec =
-    tie.close (tie.spec next-below-requires slice-aggregate-list next-words-requires returns)
+    tie.close
+    (tie.spec
+    (λ c κs. search needs)
+    (λ c. simp length-take (omega arith))
+    (λ c κs. search needs)
+    (λ c. search needs))
