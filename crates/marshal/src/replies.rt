@@ -76,7 +76,7 @@ pub fn looked(answer: Looked) -> Told
     ensures { λ r. ⌜ Tells numberIn flagIn (paperLooked answer) r ⌝ }
 {
     match answer {
-        Looked::Frame(frame) => answered(frame, 1),
+        Looked::Mapped(frame) => answered(frame, 1),
         Looked::Unmapped => answered(0, 0),
         Looked::Refused(refusal) => refused(refusal),
     }
@@ -96,7 +96,7 @@ pub fn released(answer: Released) -> Told
     ensures { λ r. ⌜ Tells numberIn flagIn (paperReleased answer) r ⌝ }
 {
     match answer {
-        Released::Frame(frame) => answered(frame, 0),
+        Released::Freed(frame) => answered(frame, 0),
         Released::Refused(refusal) => refused(refusal),
     }
 }

@@ -14,7 +14,7 @@ use vectors_input::refused;
 
 pub fn looked(answer: Looked) {
     match answer {
-        Looked::Frame(frame) => line(b"mapped ", frame),
+        Looked::Mapped(frame) => line(b"mapped ", frame),
         Looked::Unmapped => vectors_input::text(b"unmapped\n"),
         Looked::Refused(refusal) => refused(refusal),
     }
@@ -30,7 +30,7 @@ pub fn faulted(answer: Faulted) {
 
 pub fn released(answer: Released) {
     match answer {
-        Released::Frame(frame) => line(b"freed ", frame),
+        Released::Freed(frame) => line(b"freed ", frame),
         Released::Refused(refusal) => refused(refusal),
     }
 }
