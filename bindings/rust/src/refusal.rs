@@ -17,7 +17,7 @@ use core::fmt;
 /// ```
 #[derive(Clone, Copy, Debug, PartialEq, Eq, Hash)]
 pub struct Refusal {
-    /// 1 to 22.
+    /// The number of the list in `docs/REFUSALS.md`, from 1 on.
     pub number: u32,
     /// What it counts is told by [`row_names`].
     pub row: u32,
@@ -83,7 +83,10 @@ impl fmt::Display for Refusal {
         write!(f, "refused {}", self.number)?;
         match row_names(self.number) {
             RowNames::Domain => write!(f, ", domain {}", self.row)?,
-            RowNames::PlanRow => write!(f, ", row {}", self.row)?,
+            RowNames::PlanRow if matches!(self.number, 17 | 21) => {
+                write!(f, ", VCPU row {}", self.row)?
+            }
+            RowNames::PlanRow => write!(f, ", task row {}", self.row)?,
             RowNames::Nothing => {}
         }
         write!(f, ": {}", self.meaning())
