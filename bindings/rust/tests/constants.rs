@@ -197,7 +197,8 @@ fn fields_of_rows() {
     assert_eq!(one, Ok(()));
 }
 
-/// Number, meaning and what the row names, from the table of docs/REFUSALS.md.
+/// Number, meaning and what the row names, from the table of docs/REFUSALS.md. A row of VCPUs or of tasks is
+/// told by the meaning.
 fn documented() -> Vec<(u32, String, RowNames)> {
     let page = include_str!("../../../docs/REFUSALS.md");
     let rows = page.lines().filter_map(|line| {
@@ -206,8 +207,10 @@ fn documented() -> Vec<(u32, String, RowNames)> {
         let row_names = match *cells.get(3)? {
             "0" => RowNames::Nothing,
             names if names.contains("domain") => RowNames::Domain,
-            names if names.contains("VCPU row") => RowNames::Vcpu,
-            names if names.contains("task") => RowNames::Task,
+            names if names.contains("VCPU row") || names.contains("task") => {
+                assert_eq!(names.contains("task"), meaning(number).contains("task"));
+                RowNames::PlanRow
+            }
             names => panic!("a row names {names}?"),
         };
         Some((number, cells[2].to_string(), row_names))
@@ -249,7 +252,7 @@ fn meaning(number: u32) -> String {
 fn meanings_are_those_of_the_page() {
     let page = documented();
     let numbers: Vec<u32> = page.iter().map(|(number, ..)| *number).collect();
-    assert_eq!(numbers, (1..=22).collect::<Vec<u32>>());
+    assert_eq!(numbers, WORDS.map(|(number, _)| number));
     for ((number, text, _), (of, words)) in page.iter().zip(WORDS) {
         assert_eq!(*number, of);
         let (meaning, text) = (meaning(of), text.to_lowercase());
@@ -257,13 +260,13 @@ fn meanings_are_those_of_the_page() {
             assert!(meaning.contains(word), "{of}: {meaning} without {word}");
             assert!(text.contains(word), "{of}: {text} without {word}");
         }
-        let others = (1..=22).filter(|number| *number != of);
+        let others = numbers.iter().copied().filter(|number| *number != of);
         let alike = |number| {
             words
                 .iter()
                 .all(|word| self::meaning(number).contains(word))
         };
-        assert!(!others.into_iter().any(alike), "{of} is not told apart");
+        assert!(!{ others }.any(alike), "{of} is not told apart");
         // every number in the meaning stands on the page too
         let figures = meaning.split(|c: char| !c.is_ascii_digit() && c != ',');
         for figure in figures.map(|figure| figure.trim_matches(',')) {
@@ -274,9 +277,11 @@ fn meanings_are_those_of_the_page() {
 
 #[test]
 fn no_two_meanings_are_alike() {
-    let meanings: BTreeSet<String> = (0..=22).map(meaning).collect();
-    assert_eq!(meanings.len(), 23);
-    for number in (23..=30).chain([u32::MAX]) {
+    let meanings: BTreeSet<String> = WORDS.iter().map(|(number, _)| meaning(*number)).collect();
+    assert_eq!(meanings.len(), WORDS.len());
+    assert!(!meanings.contains(&meaning(0)));
+    let listed = |number: &u32| WORDS.iter().any(|(of, _)| of == number);
+    for number in (0..=99).chain([u32::MAX]).filter(|number| !listed(number)) {
         assert_eq!(meaning(number), meaning(0));
     }
 }
@@ -287,8 +292,7 @@ fn rows_name_what_the_page_says() {
     for number in (0..=30).chain([u32::MAX]) {
         let listed = page.iter().find(|(listed, ..)| *listed == number);
         let expected = listed.map_or(RowNames::Nothing, |(.., names)| *names);
-        let names = Refusal { number, row: 1 }.row_names();
-        assert_eq!(names, expected, "{number}");
+        assert_eq!(row_names(number), expected, "{number}");
     }
 }
 
@@ -297,10 +301,10 @@ fn rows_name_what_the_page_says() {
 fn rows_are_shown() {
     for number in 0..=30 {
         let refusal = Refusal { number, row: 77 };
-        let shown = match refusal.row_names() {
+        let shown = match row_names(number) {
             RowNames::Domain => ", domain 77: ",
-            RowNames::Vcpu => ", VCPU row 77: ",
-            RowNames::Task => ", task row 77: ",
+            RowNames::PlanRow if refusal.meaning().contains("task") => ", task row 77: ",
+            RowNames::PlanRow => ", VCPU row 77: ",
             RowNames::Nothing => ": ",
         };
         let expected = format!("refused {number}{shown}{}", refusal.meaning());

@@ -1,4 +1,4 @@
-//! Every refusal from 1 to 22 through the binding, with its row, each by the call that gives it; and what
+//! Every refusal through the binding, with its row, each by the call that gives it; and what
 //! was lent is afterwards as it was.
 
 use juzvanec::*;
@@ -213,11 +213,4 @@ fn meanings() {
         shown(22, 2),
         "refused 22, task row 2: the task has no time up to its deadline"
     );
-    let mut meanings: Vec<&str> = (1..=22)
-        .map(|number| Refusal { number, row: 0 }.meaning())
-        .collect();
-    assert!(!meanings.contains(&"no such refusal"));
-    meanings.sort();
-    meanings.dedup();
-    assert_eq!(meanings.len(), 22);
 }

@@ -12,7 +12,7 @@ use Rattle.times.proofs.Planner as planner
 use Rattle.times.proofs.Added.{added-rows-change-nothing}
 use Rattle.examples.proofs.Claim.{claim}
 use Rattle.report.proofs.LongInputs.{first-bytes-tell}
-use Rattle.juzvanec.proofs.Lent as lent
+use Rattle.marshal.proofs.Lent as lent
 use Rattle.claims.specs.Colours.{ColourClaims}
 use Rattle.claims.specs.Histories.{HistoryClaims}
 use Rattle.claims.specs.Times.{SupplyClaims, TimeClaims}

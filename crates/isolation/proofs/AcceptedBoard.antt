@@ -21,6 +21,7 @@ use Rattle.calls.specs.Table.{State, stateOf}
 use Rattle.isolation.specs.DomainRule.{Accepted}
 
 -- What calls change of a state: the active sets of its board, and its table. The rest of the board is as at the start, after any history.
+-- Whatever else a call comes to change is one field more here, and in what a domain sees (Agree).
 pub record Live : Type 0 where
   pub active : List ℕ
   pub table : List ℕ
@@ -49,6 +50,7 @@ setOf x d = getD (x .active) d 0
 abbrev pub Inside : Board → ℕ → ℕ → Type 0
 Inside b d s = (c : ℕ) → has s c ≡ true → has (grant b d) c ≡ true
 
+-- what an accepted board has
 pub record Facts (b : Board) (x : Live) : Type 0 where
   pub coloured : 0 < b .colours
   pub long : length (x .table) ≡ b .frames

@@ -43,6 +43,7 @@ pub record Held (b : Board) (f w : ℕ) : Type 0 where
   pub own : granted b domain f ≡ true
   pub has-page : PageWord domain w
 
+-- free, reserved or held
 pub data Lawful (b : Board) (f w : ℕ) : Type 0 where
   free : w ≡ 0 → Lawful b f w
   reserved : w ≡ 65535 → Lawful b f w

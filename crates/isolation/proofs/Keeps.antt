@@ -21,7 +21,7 @@ use Rattle.isolation.proofs.Invariant.{granted, Inv, Good, good, Mine, 
 use Rattle.isolation.proofs.Agree.{Agree, agree-self}
 use Rattle.isolation.proofs.Found.{mapped-mine, choices-mine, strays-mine, unmapped}
 
--- n is s after a call of domain e
+-- n is s after a call of domain e: it has the invariant, and every other domain sees the same
 pub record Kept (b : Board) (t₀ : List ℕ) (e : ℕ) (s n : State) : Type 0 where
   pub good-next : Good b t₀ n
   pub others : (d : ℕ) → d < b .domains → (e ≡ d → ⊥) → Agree b d n s

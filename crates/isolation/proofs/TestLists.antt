@@ -67,7 +67,7 @@ module _ (R : State → State → Type 0) {s r : State} (k : R s r) where
       (λ e. rw e (record { reply = refl; moves = refl; next = k }))
       (λ e. rw e (unless-both ts us us′ o q (λ p. f (rw e p))))
 
-  -- all tests are
+  -- where all tests are the same
   pub unless-two : (ts : List Test) (o q : Done) → (passes ts ≡ true → Meet R (settle s (Answers o)) (settle r (Answers q)))
       → Meet R (settle s (unless ts o)) (settle r (unless ts q))
   unfolding unless

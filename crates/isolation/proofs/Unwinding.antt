@@ -8,6 +8,7 @@ use mathlib.Core.Path.{_≡_, refl}
 use Rattle.lists.specs.Choice.{if_then_else_}
 use Rattle.lists.proofs.Split.{cases}
 
+-- the state after a list of calls, its own calls, and what they are told
 unfoldable pub runs : {S C : Type 0} → (S → C → S) → S → List C → S
 runs next s [] = s
 runs next s (c ∷ cs) = runs next (next s c) cs

@@ -9,7 +9,7 @@ use lib.Dec.{eqb}
 use lib.ListN.{length}
 use Rattle.lists.specs.Choice.{if_then_else_}
 use Rattle.refusal.specs.Reply.{Reply, passes}
-use Rattle.board.specs.Tests.{stateTests}
+use Rattle.board.specs.Tests.{boardTests}
 use Rattle.calls.specs.Table.{State, word}
 use Rattle.calls.specs.Calls.{Answer, Move, Outcome, look, fault, release, colours, recolour}
 
@@ -89,7 +89,7 @@ SameMap d s r = (p : ℕ) → p ≤ 4095 → look s d p .reply ≡ look r d p .r
 
 -- An accepted board with its table passes 2 to 7; an empty table has only 0 and 65,535, the reserved word, anywhere.
 abbrev pub Accepted : State → Type 0
-Accepted s = passes (stateTests (s .board) (length (s .table))) ≡ true
+Accepted s = passes (boardTests (s .board) (length (s .table))) ≡ true
 
 abbrev pub Empty : State → Type 0
 Empty s = (f : ℕ) → f < s .board .frames → (word (s .table) f ≡ 0) ⊎ (word (s .table) f ≡ 65535)

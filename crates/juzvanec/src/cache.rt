@@ -2,10 +2,10 @@
 ghost use mathlib.Core.Path.{_≡_};
 ghost use Rattle.colours.specs.Cache.{cacheReply};
 ghost use Rattle.colours.specs.Pages.{layoutReply, bleachReply};
-ghost use Rattle.juzvanec.specs.Replies.{numberOf, rowOf, valueOf, itself};
-use crate::replies::bleached;
-use crate::replies::counted;
-use crate::replies::laid;
+ghost use Rattle.marshal.specs.Replies.{numberOf, rowOf, valueOf, itself};
+use marshal::bleached;
+use marshal::counted;
+use marshal::laid;
 
 // The number N of colours of a cache.
 #[no_mangle]

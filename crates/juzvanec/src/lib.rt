@@ -7,6 +7,4 @@ mod cache;
 mod interface;
 mod plans;
 mod program;
-mod replies;
 mod table;
-mod words;

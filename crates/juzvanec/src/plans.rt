@@ -4,10 +4,10 @@ ghost use Prim.Native.Nat.{_*_};
 ghost use lib.ListN.{length as lengthOf};
 ghost use Rattle.rows.specs.Part.{partStart, partOf};
 ghost use Rattle.admission.specs.Admission.{admissionReply, timesAfter};
-ghost use Rattle.juzvanec.specs.Words.{boardOf};
-ghost use Rattle.juzvanec.specs.Replies.{numberOf, rowOf};
-use crate::replies::admitted;
-use crate::words::board_of;
+ghost use Rattle.marshal.specs.Words.{boardOf};
+ghost use Rattle.marshal.specs.Replies.{numberOf, rowOf};
+use marshal::admitted;
+use marshal::board_of;
 
 // The part of a VCPU: it starts at word `start` of the caller's list and has `length` words.
 #[no_mangle]

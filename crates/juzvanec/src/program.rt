@@ -3,8 +3,8 @@ ghost use mathlib.Core.Path.{_≡_};
 ghost use lib.ListN.{length as lengthOf};
 ghost use Rattle.report.specs.Report.{verdict, wordsTaken, textOf};
 ghost use Rattle.report.specs.Text.{over};
-ghost use Rattle.juzvanec.specs.Replies.{numberOf, rowOf};
-use crate::replies::admitted;
+ghost use Rattle.marshal.specs.Replies.{numberOf, rowOf};
+use marshal::admitted;
 
 // The verdict on an input. The text has `length` bytes and stands in front of `text`; the plan took
 // `words` words of the input.

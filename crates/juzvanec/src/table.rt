@@ -3,17 +3,15 @@
 ghost use mathlib.Core.Path.{_≡_};
 ghost use Rattle.calls.specs.Calls.{look as lookCall, fault as faultCall, release as releaseCall, colours as coloursCall, recolour as recolourCall};
 ghost use Rattle.calls.specs.Moves.{Listed};
-ghost use Rattle.juzvanec.specs.Words.{wordsLeft, lent};
-ghost use Rattle.juzvanec.specs.Replies.{numberOf, rowOf, valueOf, numberIn, flagIn};
-use crate::replies::active;
-use crate::replies::faulted;
-use crate::replies::looked;
-use crate::replies::mapped_flag;
-use crate::replies::moved;
-use crate::replies::new_flag;
-use crate::replies::released;
-use crate::words::board_of;
-use crate::words::write_recoloured;
+ghost use Rattle.marshal.specs.Words.{wordsLeft, lent};
+ghost use Rattle.marshal.specs.Replies.{numberOf, rowOf, valueOf, numberIn, flagIn};
+use marshal::active;
+use marshal::faulted;
+use marshal::looked;
+use marshal::moved;
+use marshal::released;
+use marshal::board_of;
+use marshal::write_recoloured;
 
 // The page's frame: `mapped` is 1 with the frame, or 0 with frame 0.
 #[no_mangle]
@@ -31,9 +29,8 @@ pub extern "C" fn juzvanec_look(
     ensures { λ _. ⌜ now (frame .exit) ≡ valueOf numberIn ((lookCall (lent (now (board .entry)) (now (table .entry))) domain page) .reply) ⌝ }
     ensures { λ _. ⌜ now (row .exit) ≡ rowOf ((lookCall (lent (now (board .entry)) (now (table .entry))) domain page) .reply) ⌝ }
 {
-    let answer = frames::look(board_of(board), table, domain, page);
-    let told = looked(answer);
-    *mapped = mapped_flag(answer);
+    let told = looked(frames::look(board_of(board), table, domain, page));
+    *mapped = told.flag;
     *frame = told.value;
     *row = told.row;
     told.number
@@ -56,9 +53,8 @@ pub extern "C" fn juzvanec_fault(
     ensures { λ _. ⌜ now (row .exit) ≡ rowOf ((faultCall (lent (now (board .entry)) (now (table .entry))) domain page) .reply) ⌝ }
     ensures { λ _. ⌜ now (table .exit) ≡ (faultCall (lent (now (board .entry)) (now (table .entry))) domain page) .next .table ⌝ }
 {
-    let answer = frames::fault(board_of(board), table, domain, page);
-    let told = faulted(answer);
-    *is_new = new_flag(answer);
+    let told = faulted(frames::fault(board_of(board), table, domain, page));
+    *is_new = told.flag;
     *frame = told.value;
     *row = told.row;
     told.number
@@ -126,7 +122,7 @@ pub extern "C" fn juzvanec_recolour(
     let done = frames::recolour(board_of(board), table, domain, set, moves);
     let answer = done.answer;
     let told = moved(answer);
-    write_recoloured(board, done);
+    write_recoloured(board, answer, domain, set);
     *count = told.value;
     *row = told.row;
     told.number

@@ -1,32 +1,21 @@
 // The lines of each call: its reply, the hash of the table, and after a recolouring those of the board,
 // the triples and the rest of the move list.
-use crate::hash;
 use board::Board;
 use frames::ActiveColours;
 use frames::Faulted;
 use frames::Looked;
 use frames::Moved;
 use frames::Released;
-use refusal::Refusal;
-
-fn line(name: &[u8], number: u32) {
-    io::write_all(1, name);
-    io::print_decimal(1, number as u64);
-    io::write_all(1, b"\n");
-}
-
-fn refused(refusal: Refusal) {
-    io::write_all(1, b"refused ");
-    io::print_decimal(1, refusal.number as u64);
-    line(b" ", refusal.row);
-}
+use vectors_input::hash_table;
+use vectors_input::hash_words;
+use vectors_input::line;
+use vectors_input::part;
+use vectors_input::refused;
 
 pub fn looked(answer: Looked) {
     match answer {
-        Looked::Frame(frame) => line(b"mapped ", frame),
-        Looked::Unmapped => {
-            io::write_all(1, b"unmapped\n");
-        }
+        Looked::Mapped(frame) => line(b"mapped ", frame),
+        Looked::Unmapped => vectors_input::text(b"unmapped\n"),
         Looked::Refused(refusal) => refused(refusal),
     }
 }
@@ -41,7 +30,7 @@ pub fn faulted(answer: Faulted) {
 
 pub fn released(answer: Released) {
     match answer {
-        Released::Frame(frame) => line(b"freed ", frame),
+        Released::Freed(frame) => line(b"freed ", frame),
         Released::Refused(refusal) => refused(refusal),
     }
 }
@@ -68,25 +57,32 @@ pub fn moved(answer: Moved) -> u32 {
 }
 
 pub fn table(words: &[u16]) {
-    io::write_all(1, b"table ");
-    io::print_decimal(1, hash::words(words));
-    io::write_all(1, b"\n");
+    line(b"table ", hash_table(words, 0, words.len()));
 }
 
-pub fn moves(board: Board, list: &[u16], count: u32) {
-    let triples = count as usize;
-    if 4333 < triples {
-        return;
+pub fn board(after: Board) {
+    let numbers = [after.colours, after.frames, after.domains];
+    let grants = after.grants;
+    let active = after.active;
+    let hash = hash_words(hash_words(hash_words(0, &numbers), &grants), &active);
+    part(b"board ", hash as u64);
+}
+
+// The sum of the hashes of so many triples, which does not depend on their order.
+fn triples(list: &[u16], count: u32) -> u64 {
+    let mut sum: u64 = 0;
+    let mut i: u32 = 0;
+    while i < count {
+        let at = 3 * (i as usize);
+        sum += hash_table(list, at, at + 3) as u64;
+        i += 1;
     }
-    let end = 3 * triples;
-    if list.len() < end {
-        return;
-    }
-    io::write_all(1, b"board ");
-    io::print_decimal(1, hash::board(board));
-    io::write_all(1, b" moves ");
-    io::print_decimal(1, hash::triples(list, triples));
-    io::write_all(1, b" rest ");
-    io::print_decimal(1, hash::words(&list[end..]));
-    io::write_all(1, b"\n");
+    sum
+}
+
+// The triples of a recolouring, and the rest of its move list.
+pub fn moves(list: &[u16], count: u32) {
+    let end = 3 * (count as usize);
+    part(b" moves ", triples(list, count));
+    line(b" rest ", hash_table(list, end, list.len()));
 }

@@ -1,87 +1,56 @@
-// Answers the separate tool's vectors of plans: admissions, parts and supplies. The input is
-// little-endian 32-bit words, as input.rt reads them; output.rt writes the lines of each case. Lists
-// are compared by a hash.
+// Answers the separate tool's vectors of plans: admissions, parts and supplies. The input is the words
+// that `vectors_input` reads; output.rt writes the lines of each case. Lists are compared by a hash.
 use board::Board;
 
-mod hash;
-mod input;
 mod output;
 
 // The list of times that an admission is lent holds words that tell whether one was changed.
-fn admit(reload: u32, vcpus: &[u32], tasks: &[u32], board: Board) {
-    let mut list = input::longest_times();
-    let room = vectors_input::next_below(60);
-    if 60 < room {
-        return;
-    }
-    let times = &mut list[..room];
-    input::fill(times);
+fn admit(board: Board, reload: u32, vcpus: &[u32], tasks: &[u32]) {
+    let mut room = [0u32; 60];
+    let times = vectors_input::marked_list(&mut room);
     let answer = admission::admit_plan(board, reload, vcpus, tasks, times);
-    let rows = vcpus.len() / 4 + tasks.len() / 20;
-    output::admission(answer, times, rows);
-}
-
-fn with_tasks(board: Board, reload: u32, vcpus: &[u32]) {
-    let mut words = input::longest_tasks();
-    let length = vectors_input::next_below(700);
-    if 700 < length {
-        return;
-    }
-    let tasks = &mut words[..length];
-    input::next_words(tasks);
-    admit(reload, vcpus, tasks, board);
+    output::admission(answer, times, vcpus.len() / 4 + tasks.len() / 20);
 }
 
 fn admission_case() {
     let board = vectors_input::next_board();
     let reload = vectors_input::next_word();
-    let mut words = input::longest_vcpus();
-    let length = vectors_input::next_below(80);
-    if 80 < length {
-        return;
-    }
-    let vcpus = &mut words[..length];
-    input::next_words(vcpus);
-    with_tasks(board, reload, vcpus);
+    let mut vcpu_room = [0u32; 80];
+    let vcpus = vectors_input::next_list(&mut vcpu_room);
+    let mut task_room = [0u32; 700];
+    let tasks = vectors_input::next_list(&mut task_room);
+    admit(board, reload, vcpus, tasks);
 }
 
 fn part_case() {
     let vcpu = vectors_input::next_word();
-    let mut words = input::longest_tasks();
-    let length = vectors_input::next_below(700);
-    if 700 < length {
-        return;
-    }
-    let tasks = &mut words[..length];
-    input::next_words(tasks);
-    output::part(rows::part(tasks, vcpu));
+    let mut room = [0u32; 700];
+    let tasks = vectors_input::next_list(&mut room);
+    let own = rows::part(tasks, vcpu);
+    vectors_input::part(b"part ", own.len() as u64);
+    vectors_input::line(b" ", vectors_input::hash_words(0, own));
 }
 
 fn supply_case() {
     let period = vectors_input::next_word();
     let budget = vectors_input::next_word();
     let t = vectors_input::next_word();
-    output::supply(supply::least(period, budget, t));
+    vectors_input::text(b"supply ");
+    vectors_input::number(supply::least(period, budget, t));
 }
 
-fn answer(operation: u32) {
-    if operation == 0 {
-        admission_case();
-        return;
+fn answer() {
+    match vectors_input::next_word() {
+        0 => admission_case(),
+        1 => part_case(),
+        _ => supply_case(),
     }
-    if operation == 1 {
-        part_case();
-        return;
-    }
-    supply_case();
 }
 
 fn main() {
-    let cases = vectors_input::next_word();
-    let mut done = 0;
-    while done < cases {
-        let operation = vectors_input::next_word();
-        answer(operation);
-        done += 1;
+    let mut left = vectors_input::next_word();
+    while 0 < left {
+        answer();
+        left -= 1;
     }
 }

@@ -1,50 +1,18 @@
--- `vectors_plans::main` is safe and ends: each turn answers one case.
-use Prim.Native.Nat.{_≤_, _-_}
+-- `vectors_plans::main` is safe and ends: each turn answers one case, and the measure is how many are left.
 use borrow.Author.Needs.{needs}
 use Rattle.vectors_plans.proofs.main.Statement.{statement}
 use Rattle.vectors_plans.proofs.main.Tie as tie
-
-abbrev Inv-loop : tie.InvT-loop
-Inv-loop cases done₀ done = done ≤ cases
-
-abbrev μ-loop : tie.MeasureT-loop
-μ-loop cases done₀ done = cases - done
-
-next-word-requires : tie.Need-next-word-requires Inv-loop μ-loop
-next-word-requires c κs = search needs
-
-loop-holds : tie.Need-loop-holds Inv-loop μ-loop
-loop-holds c = search needs
-
-next-word-requires-2 : tie.Need-next-word-requires-2 Inv-loop μ-loop
-next-word-requires-2 c κs = search needs
-
-answer-requires : tie.Need-answer-requires Inv-loop μ-loop
-answer-requires c κs = search needs
-
-add-done : tie.Need-add-done Inv-loop μ-loop
-add-done c = search needs
-
-loop-less : tie.Need-loop-less Inv-loop μ-loop
-loop-less c = search needs
-
-loop-again : tie.Need-loop-again Inv-loop μ-loop
-loop-again c = search needs
-
-returns : tie.Need-returns Inv-loop μ-loop
-returns c = search needs
 
 pub main-spec : {M : Type 1} → statement M
 main-spec =
     tie.close
     (tie.spec
-    Inv-loop
-    μ-loop
-    next-word-requires
-    loop-holds
-    next-word-requires-2
-    answer-requires
-    add-done
-    loop-less
-    loop-again
-    returns)
+    (λ left₀ left. Unit {0})
+    (λ left₀ left. left)
+    (λ c κs. search needs)
+    (λ c. search needs)
+    (λ c κs. search needs)
+    (λ c. search needs)
+    (λ c. search needs)
+    (λ c. search needs)
+    (λ c. search needs))

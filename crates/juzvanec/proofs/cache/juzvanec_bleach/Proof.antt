@@ -1,6 +1,6 @@
 -- `juzvanec::cache::juzvanec_bleach` meets its contract: what tells the answer tells the reply.
-use Rattle.juzvanec.specs.Replies.{itself}
-use Rattle.juzvanec.proofs.Tellings.{told-same}
+use Rattle.marshal.specs.Replies.{itself, nothing}
+use Rattle.marshal.proofs.Tellings.{told-same}
 use borrow.Author.Needs.{needs}
 use Rattle.juzvanec.proofs.cache.juzvanec_bleach.Statement.{statement}
 use Rattle.juzvanec.proofs.cache.juzvanec_bleach.Tie as tie
@@ -13,7 +13,7 @@ bleached-requires c κs = search needs
 
 returns : tie.Need-returns
 returns c =
-    let t = told-same itself (c .bleached .ensures) (c .before .bleach .ensures) in
+    let t = told-same itself nothing (c .bleached .ensures) (c .before .bleach .ensures) in
     (t .number, (t .value, t .row))
 
 pub juzvanec-bleach-spec : {M : Type 1} → statement M

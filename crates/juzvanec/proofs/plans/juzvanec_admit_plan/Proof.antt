@@ -3,8 +3,8 @@ use mathlib.Core.Path.{ap, _∙_}
 use lib.ListN.{length}
 use Rattle.board.specs.declared.Board.{Board}
 use Rattle.admission.specs.Admission.{admissionReply, timesAfter}
-use Rattle.juzvanec.specs.Replies.{nothing}
-use Rattle.juzvanec.proofs.Tellings.{told-same}
+use Rattle.marshal.specs.Replies.{nothing}
+use Rattle.marshal.proofs.Tellings.{told-same}
 use borrow.Author.Needs.{needs}
 use Rattle.juzvanec.proofs.plans.juzvanec_admit_plan.Statement.{statement}
 use Rattle.juzvanec.proofs.plans.juzvanec_admit_plan.Tie as tie
@@ -30,7 +30,7 @@ returns c =
     done .0
     ∙ ap (λ (b : Board). admissionReply b (a .reload) (a .vcpus .now) (a .tasks .now) (length (a .times .now))) same in
     let times = done .1 ∙ ap (λ (b : Board). timesAfter b (a .reload) (a .vcpus .now) (a .tasks .now) (a .times .now)) same in
-    let t = told-same nothing (c .admitted .ensures) reply in
+    let t = told-same nothing nothing (c .admitted .ensures) reply in
     (t .number, (t .row, times))
 
 pub juzvanec-admit-plan-spec : {M : Type 1} → statement M

@@ -3,8 +3,8 @@ use mathlib.Core.Path.{ap, _∙_}
 use Rattle.board.specs.declared.Board.{Board}
 use Rattle.calls.specs.Table.{stateOf}
 use Rattle.calls.specs.Calls.{Outcome, colours as coloursCall}
-use Rattle.juzvanec.specs.Replies.{numberIn}
-use Rattle.juzvanec.proofs.Tellings.{told-same}
+use Rattle.marshal.specs.Replies.{numberIn, flagIn}
+use Rattle.marshal.proofs.Tellings.{told-same}
 use borrow.Author.Needs.{needs}
 use Rattle.juzvanec.proofs.table.juzvanec_colours.Statement.{statement}
 use Rattle.juzvanec.proofs.table.juzvanec_colours.Tie as tie
@@ -23,7 +23,7 @@ returns c =
     let a = c .before .before .before .before .args in
     let on : Board → Outcome = λ b. coloursCall (stateOf b (a .table .now)) (a .domain) in
     let reply = c .before .colours .ensures ∙ ap (λ (b : Board). on b .reply) (c .before .before .board-of .ensures) in
-    let t = told-same numberIn (c .active .ensures) reply in
+    let t = told-same numberIn flagIn (c .active .ensures) reply in
     (t .number, (t .value, t .row))
 
 pub juzvanec-colours-spec : {M : Type 1} → statement M

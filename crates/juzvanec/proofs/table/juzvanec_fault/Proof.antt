@@ -3,8 +3,8 @@ use mathlib.Core.Path.{ap, _∙_}
 use Rattle.board.specs.declared.Board.{Board}
 use Rattle.calls.specs.Table.{stateOf}
 use Rattle.calls.specs.Calls.{Outcome, fault as faultCall}
-use Rattle.juzvanec.specs.Replies.{valueOf, numberIn, flagIn}
-use Rattle.juzvanec.proofs.Tellings.{told-same}
+use Rattle.marshal.specs.Replies.{numberIn, flagIn}
+use Rattle.marshal.proofs.Tellings.{told-same}
 use borrow.Author.Needs.{needs}
 use Rattle.juzvanec.proofs.table.juzvanec_fault.Statement.{statement}
 use Rattle.juzvanec.proofs.table.juzvanec_fault.Tie as tie
@@ -18,21 +18,18 @@ fault-requires c κs = search needs
 faulted-requires : tie.Need-faulted-requires
 faulted-requires c κs = search needs
 
-new-flag-requires : tie.Need-new-flag-requires
-new-flag-requires c κs = search needs
-
 same-length : tie.Need-same-length
 same-length c = search needs
 
 returns : tie.Need-returns
 returns c =
-    let a = c .before .before .before .before .before .before .before .before .args in
+    let a = c .before .before .before .before .before .before .before .args in
     let on : Board → Outcome = λ b. faultCall (stateOf b (a .table .now)) (a .domain) (a .page) in
-    let same = c .before .before .before .before .before .before .board-of .ensures in
-    let reply = c .before .before .before .before .fault .ensures .0 ∙ ap (λ (b : Board). on b .reply) same in
-    let table = c .before .before .before .before .fault .ensures .1 ∙ ap (λ (b : Board). on b .next .table) same in
-    let t = told-same numberIn (c .before .faulted .ensures) reply in
-    (t .number, (c .new-flag .ensures ∙ ap (valueOf flagIn) reply, (t .value, (t .row, table))))
+    let same = c .before .before .before .before .before .board-of .ensures in
+    let reply = c .before .before .before .fault .ensures .0 ∙ ap (λ (b : Board). on b .reply) same in
+    let table = c .before .before .before .fault .ensures .1 ∙ ap (λ (b : Board). on b .next .table) same in
+    let t = told-same numberIn flagIn (c .faulted .ensures) reply in
+    (t .number, (t .flag, (t .value, (t .row, table))))
 
 pub juzvanec-fault-spec : {M : Type 1} → statement M
 juzvanec-fault-spec =
@@ -41,6 +38,5 @@ juzvanec-fault-spec =
     board-of-requires
     fault-requires
     faulted-requires
-    new-flag-requires
     same-length
     returns)

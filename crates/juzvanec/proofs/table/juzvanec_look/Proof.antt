@@ -3,8 +3,8 @@ use mathlib.Core.Path.{ap, _∙_}
 use Rattle.board.specs.declared.Board.{Board}
 use Rattle.calls.specs.Table.{stateOf}
 use Rattle.calls.specs.Calls.{Outcome, look as lookCall}
-use Rattle.juzvanec.specs.Replies.{valueOf, numberIn, flagIn}
-use Rattle.juzvanec.proofs.Tellings.{told-same}
+use Rattle.marshal.specs.Replies.{numberIn, flagIn}
+use Rattle.marshal.proofs.Tellings.{told-same}
 use borrow.Author.Needs.{needs}
 use Rattle.juzvanec.proofs.table.juzvanec_look.Statement.{statement}
 use Rattle.juzvanec.proofs.table.juzvanec_look.Tie as tie
@@ -18,18 +18,15 @@ look-requires c κs = search needs
 looked-requires : tie.Need-looked-requires
 looked-requires c κs = search needs
 
-mapped-flag-requires : tie.Need-mapped-flag-requires
-mapped-flag-requires c κs = search needs
-
 returns : tie.Need-returns
 returns c =
-    let a = c .before .before .before .before .before .args in
+    let a = c .before .before .before .before .args in
     let on : Board → Outcome = λ b. lookCall (stateOf b (a .table .now)) (a .domain) (a .page) in
-    let reply = c .before .before .look .ensures ∙ ap (λ (b : Board). on b .reply) (c .before .before .before .board-of .ensures) in
-    let t = told-same numberIn (c .before .looked .ensures) reply in
-    (t .number, (c .mapped-flag .ensures ∙ ap (valueOf flagIn) reply, (t .value, t .row)))
+    let reply = c .before .look .ensures ∙ ap (λ (b : Board). on b .reply) (c .before .before .board-of .ensures) in
+    let t = told-same numberIn flagIn (c .looked .ensures) reply in
+    (t .number, (t .flag, (t .value, t .row)))
 
 pub juzvanec-look-spec : {M : Type 1} → statement M
 juzvanec-look-spec =
     tie.close
-    (tie.spec board-of-requires look-requires looked-requires mapped-flag-requires returns)
+    (tie.spec board-of-requires look-requires looked-requires returns)

@@ -1,12 +1,13 @@
 -- `juzvanec::table::juzvanec_recolour` meets its contract: the call's reply, over the board that the words stand for, is told.
-use mathlib.Core.Path.{ap, ap₂, _∙_}
+use mathlib.Core.Path.{ap, _∙_}
 use Rattle.refusal.specs.Reply.{Reply}
 use Rattle.board.specs.declared.Board.{Board}
 use Rattle.calls.specs.Table.{stateOf}
-use Rattle.calls.specs.Calls.{Answer, Outcome, recolour as recolourCall}
-use Rattle.juzvanec.specs.Words.{wordsAfter}
-use Rattle.juzvanec.specs.Replies.{numberIn}
-use Rattle.juzvanec.proofs.Tellings.{told-same}
+use Rattle.calls.specs.Calls.{Answer, Outcome, withActive, recolour as recolourCall}
+use Rattle.marshal.specs.Words.{boardOf, wordsAfter}
+use Rattle.marshal.specs.Replies.{numberIn, flagIn}
+use Rattle.marshal.proofs.Lent.{words-left}
+use Rattle.marshal.proofs.Tellings.{told-same}
 use borrow.Author.Needs.{needs}
 use Rattle.juzvanec.proofs.table.juzvanec_recolour.Statement.{statement}
 use Rattle.juzvanec.proofs.table.juzvanec_recolour.Tie as tie
@@ -36,10 +37,12 @@ returns c =
     let same = ap on (c .before .before .before .before .before .before .before .before .before .before .board-of .ensures) in
     let done = c .before .before .before .before .before .before .before .recolour .ensures in
     let reply = done .0 ∙ ap (λ (o : Outcome). o .reply) same in
-    let board = done .1 .0 ∙ ap (λ (o : Outcome). o .next .board) same in
     let table = done .1 .1 .0 ∙ ap (λ (o : Outcome). o .next .table) same in
-    let words = c .write-recoloured .ensures ∙ ap₂ (λ (p : Reply Answer) (b : Board). wordsAfter p b (a .board .now)) reply board in
-    let t = told-same numberIn (c .before .before .moved .ensures) reply in
+    let words =
+    c .write-recoloured .ensures
+    ∙ ap (λ (p : Reply Answer). wordsAfter p (withActive (boardOf (a .board .now)) (a .domain) (a .set)) (a .board .now)) reply
+    ∙ words-left (a .board .now) (a .table .now) (a .moves .now) (a .domain) (a .set) in
+    let t = told-same numberIn flagIn (c .before .before .moved .ensures) reply in
     (t .number, (t .value, (t .row, (words, (table, rw same at (done .1 .1 .1))))))
 
 pub juzvanec-recolour-spec : {M : Type 1} → statement M

@@ -1,0 +1,90 @@
+-- The 19 words of a board: reading and writing undo each other, so the words that a call leaves stand for the board that it leaves, and
+-- a new active set is one new word.
+use Prim.Native.Nat.{ℕ, zero, suc, _+_, _<_, _≤_}
+use native.Mathlib.Nat.{zero-add, suc-add}
+use native.Mathlib.Omega.{arith}
+use mathlib.Core.List.{List, [], _∷_, _++_}
+use mathlib.Core.Path.{_≡_, refl, sym, ap, _∙_}
+use lib.ListN.{length, getD, set, take, drop, length-append, length-set}
+use lib.Seq.{drop-cons, take-all, take-at, drop-at}
+use Rattle.lists.proofs.Split.{cases}
+use Rattle.refusal.specs.Reply.{Test, unless}
+use Rattle.board.specs.declared.Board.{Board}
+use Rattle.calls.specs.Table.{State}
+use Rattle.calls.specs.Calls.{Done, withActive, recolour, called, settle}
+use Rattle.marshal.specs.Words.{wordsFrom, boardOf, boardWords, wordsAfter, wordsLeft, lent}
+
+taken : (ws : List ℕ) (n k : ℕ) → k + n ≤ length ws → take n (drop k ws) ≡ wordsFrom k n ws
+taken ws zero k h = refl
+taken ws (suc n) k h =
+    let l : k < length ws = omega arith in
+    rw (drop-cons ws k 0 l) (ap (λ (l : List ℕ). getD ws k 0 ∷ l) (taken ws n (suc k) (omega arith)))
+
+pub whole : (ws : List ℕ) (n : ℕ) → length ws ≡ n → wordsFrom 0 n ws ≡ ws
+whole ws n e = sym (taken ws n 0 (omega arith)) ∙ take-all n ws (omega arith)
+
+pub word-at : (ws : List ℕ) (n k i : ℕ) → i < n → getD (wordsFrom k n ws) i 0 ≡ getD ws (k + i) 0
+word-at ws zero k i h = omega (arith, h)
+word-at ws (suc n) k zero h = ap (λ (j : ℕ). getD ws j 0) (omega arith)
+word-at ws (suc n) k (suc i) h =
+    let e : suc k + i ≡ k + suc i = omega arith in
+    word-at ws n (suc k) i (omega arith) ∙ ap (λ (j : ℕ). getD ws j 0) e
+
+-- a board that is written back where it was read changes nothing
+pub words-back : (ws : List ℕ) → length ws ≡ 19 → boardWords (boardOf ws) ≡ ws
+unfolding boardWords
+words-back ws e = whole ws 19 e
+
+-- the words of a board stand for it
+pub board-back : (b : Board) → length (b .grants) ≡ 8 → length (b .active) ≡ 8 → boardOf (boardWords b) ≡ b
+unfolding boardWords
+board-back b g a =
+    let l : List ℕ = b .grants ++ b .active in
+    let n : length l ≡ 16 = simp length-append (omega arith) in
+    let grants : wordsFrom 0 8 l ≡ b .grants = sym (taken l 8 0 (omega arith)) ∙ take-at (b .grants) (b .active) 8 g in
+    let active : wordsFrom 8 8 l ≡ b .active =
+    sym (taken l 8 8 (omega arith)) ∙ ap (λ (m : List ℕ). take 8 m) (drop-at (b .grants) (b .active) 8 g) ∙ take-all 8 (b .active) (omega arith) in
+    λ j. record { colours = b .colours; frames = b .frames; domains = b .domains; grants = grants j; active = active j }
+
+set-after : (xs ys : List ℕ) (i w : ℕ) → set (xs ++ ys) (length xs + i) w ≡ xs ++ set ys i w
+set-after [] ys i w = ap (λ (k : ℕ). set ys k w) (zero-add i)
+set-after (x ∷ xs) ys i w =
+    ap (λ (k : ℕ). set (x ∷ (xs ++ ys)) k w) (suc-add (length xs) i) ∙ ap (λ (l : List ℕ). x ∷ l) (set-after xs ys i w)
+
+-- a new active set is one new word
+pub one-word : (ws : List ℕ) (d c : ℕ) → length ws ≡ 19 → boardWords (withActive (boardOf ws) d c) ≡ set ws (11 + d) c
+unfolding boardWords
+one-word ws d c e =
+    sym (set-after (wordsFrom 0 11 ws) (wordsFrom 11 8 ws) d c) ∙ ap (λ (l : List ℕ). set l (11 + d) c) (words-back ws e)
+
+-- where the words stand for the board before a call, those after it stand for the board after it
+settled :
+    (s : State) (ws : List ℕ) (ts : List Test) (done : Done)
+    → boardOf ws ≡ s .board
+    → boardOf (boardWords (done .next .board)) ≡ done .next .board
+    → boardOf (wordsLeft (settle s (unless ts done)) ws) ≡ settle s (unless ts done) .next .board
+unfolding settle unless
+settled s ws [] done before after = after
+settled s ws (t ∷ ts) done before after =
+    cases (t .fails) (λ e. rw e before) (λ e. rw e (settled s ws ts done before after))
+
+pub words-stand :
+    (ws table moves : List ℕ) (d c : ℕ)
+    → boardOf (wordsLeft (recolour (lent ws table) d c moves) ws) ≡ recolour (lent ws table) d c moves .next .board
+unfolding recolour called
+words-stand ws table moves d c =
+    let b : Board = withActive (boardOf ws) d c in
+    let long : length (b .active) ≡ 8 = simp length-set in
+    settled (lent ws table) ws _ _ refl (board-back b refl long)
+
+-- an accepted recolouring leaves a board with the new active set, so that one new word is all that there is to write
+left : (s : State) (ws : List ℕ) (ts : List Test) (done : Done)
+    → wordsAfter (settle s (unless ts done) .reply) (done .next .board) ws ≡ wordsLeft (settle s (unless ts done)) ws
+unfolding settle unless
+left s ws [] done = refl
+left s ws (t ∷ ts) done = cases (t .fails) (λ e. rw e) (λ e. rw e (left s ws ts done))
+
+pub words-left : (ws table moves : List ℕ) (d c : ℕ)
+    → wordsAfter (recolour (lent ws table) d c moves .reply) (withActive (boardOf ws) d c) ws ≡ wordsLeft (recolour (lent ws table) d c moves) ws
+unfolding recolour called
+words-left ws table moves d c = left (lent ws table) ws _ _

@@ -1,0 +1,31 @@
+-- `marshal::replies::admitted` meets its contract, case by case.
+use mathlib.Core.Path.{ap}
+use Rattle.admission.specs.Paper.{paperAdmission}
+use Rattle.marshal.specs.Replies.{nothing}
+use Rattle.marshal.proofs.Tellings.{tells-answer, tells-refusal}
+use borrow.Author.Needs.{needs}
+use Rattle.marshal.proofs.replies.admitted.Statement.{statement}
+use Rattle.marshal.proofs.replies.admitted.Tie as tie
+
+enum-told : tie.Need-enum-told
+enum-told c = search needs
+
+answered-requires : tie.Need-answered-requires
+answered-requires c κs = search needs
+
+enum-known-answer : tie.Need-enum-known-answer
+enum-known-answer c = search needs
+
+refused-requires : tie.Need-refused-requires
+refused-requires c κs = search needs
+
+returns : tie.Need-returns
+returns c = tells-answer nothing nothing (ap paperAdmission (c .before .enum-told .given .1)) (c .answered .ensures)
+
+returns-2 : tie.Need-returns-2
+returns-2 c = tells-refusal nothing nothing (ap paperAdmission (c .before .before .answer .given .1)) (c .refused .ensures)
+
+pub admitted-spec : {M : Type 1} → statement M
+admitted-spec =
+    tie.close
+    (tie.spec enum-told answered-requires enum-known-answer refused-requires returns returns-2)

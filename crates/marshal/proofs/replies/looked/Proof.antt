@@ -1,0 +1,40 @@
+-- `marshal::replies::looked` meets its contract, case by case.
+use mathlib.Core.Path.{ap}
+use Rattle.frames.specs.Paper.{paperLooked}
+use Rattle.marshal.specs.Replies.{numberIn, flagIn}
+use Rattle.marshal.proofs.Tellings.{tells-answer, tells-refusal}
+use borrow.Author.Needs.{needs}
+use Rattle.marshal.proofs.replies.looked.Statement.{statement}
+use Rattle.marshal.proofs.replies.looked.Tie as tie
+
+enum-known-answer : tie.Need-enum-known-answer
+enum-known-answer c = search needs
+
+answered-requires : tie.Need-answered-requires
+answered-requires c κs = search needs
+
+enum-told : tie.Need-enum-told
+enum-told c = search needs
+
+answered-requires-2 : tie.Need-answered-requires-2
+answered-requires-2 c κs = search needs
+
+enum-known-answer-2 : tie.Need-enum-known-answer-2
+enum-known-answer-2 c = search needs
+
+refused-requires : tie.Need-refused-requires
+refused-requires c κs = search needs
+
+returns : tie.Need-returns
+returns c = tells-answer numberIn flagIn (ap paperLooked (c .before .before .answer .given .1)) (c .answered .ensures)
+
+returns-2 : tie.Need-returns-2
+returns-2 c = tells-answer numberIn flagIn (ap paperLooked (c .before .enum-told .given .1)) (c .answered2 .ensures)
+
+returns-3 : tie.Need-returns-3
+returns-3 c = tells-refusal numberIn flagIn (ap paperLooked (c .before .before .answer2 .given .1)) (c .refused .ensures)
+
+pub looked-spec : {M : Type 1} → statement M
+looked-spec =
+    tie.close
+    (tie.spec enum-known-answer answered-requires enum-told answered-requires-2 enum-known-answer-2 refused-requires returns returns-2 returns-3)

@@ -1,0 +1,31 @@
+-- `marshal::replies::moved` meets its contract, case by case.
+use mathlib.Core.Path.{ap}
+use Rattle.frames.specs.Paper.{paperMoved}
+use Rattle.marshal.specs.Replies.{numberIn, flagIn}
+use Rattle.marshal.proofs.Tellings.{tells-answer, tells-refusal}
+use borrow.Author.Needs.{needs}
+use Rattle.marshal.proofs.replies.moved.Statement.{statement}
+use Rattle.marshal.proofs.replies.moved.Tie as tie
+
+enum-known-answer : tie.Need-enum-known-answer
+enum-known-answer c = search needs
+
+answered-requires : tie.Need-answered-requires
+answered-requires c κs = search needs
+
+enum-known-answer-2 : tie.Need-enum-known-answer-2
+enum-known-answer-2 c = search needs
+
+refused-requires : tie.Need-refused-requires
+refused-requires c κs = search needs
+
+returns : tie.Need-returns
+returns c = tells-answer numberIn flagIn (ap paperMoved (c .before .before .answer .given .1)) (c .answered .ensures)
+
+returns-2 : tie.Need-returns-2
+returns-2 c = tells-refusal numberIn flagIn (ap paperMoved (c .before .before .answer2 .given .1)) (c .refused .ensures)
+
+pub moved-spec : {M : Type 1} → statement M
+moved-spec =
+    tie.close
+    (tie.spec enum-known-answer answered-requires enum-known-answer-2 refused-requires returns returns-2)

@@ -1,0 +1,32 @@
+-- `marshal::words::board_of` meets its contract: field by field.
+use Prim.Native.Nat.{ℕ}
+use mathlib.Core.List.{List}
+use lib.ListN.{getD}
+use borrow.Author.Needs.{needs}
+use Rattle.marshal.proofs.words.board_of.Statement.{statement}
+use Rattle.marshal.proofs.words.board_of.Tie as tie
+
+element-copy-out-t4 : tie.Need-element-copy-out-t4
+element-copy-out-t4 c = search needs
+
+element-copy-out-t7 : tie.Need-element-copy-out-t7
+element-copy-out-t7 c = search needs
+
+element-copy-out-t10 : tie.Need-element-copy-out-t10
+element-copy-out-t10 c = search needs
+
+eight-requires : tie.Need-eight-requires
+eight-requires c κs = search needs
+
+eight-requires-2 : tie.Need-eight-requires-2
+eight-requires-2 c κs = search needs
+
+returns : tie.Need-returns
+returns c =
+    let words : List ℕ = c .before .before .before .before .before .args .words .now in
+    λ j. record { colours = getD words 0 0; frames = getD words 1 0; domains = getD words 2 0; grants = c .before .eight .ensures j; active = c .eight2 .ensures j }
+
+pub board-of-spec : {M : Type 1} → statement M
+board-of-spec =
+    tie.close
+    (tie.spec element-copy-out-t4 element-copy-out-t7 element-copy-out-t10 eight-requires eight-requires-2 returns)

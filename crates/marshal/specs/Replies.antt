@@ -1,0 +1,54 @@
+-- The numbers that a caller in C is told of a reply: that of the refusal, 0 where the call answers; the refusal's row, 0 where it names
+-- none or the call answers; and the numbers of the answer, all 0 on a refusal.
+use Prim.Native.Nat.{ℕ}
+use mathlib.Core.Path.{_≡_}
+use Rattle.refusal.specs.Reply.{Reply, Answers, Refuses}
+use Rattle.calls.specs.Calls.{Answer, Mapped, Unmapped, Old, New, Freed, Active, Moved}
+use Rattle.marshal.specs.declared.replies.Told.{Told}
+
+module _ {A : Type 0} where
+  abbrev pub numberOf : Reply A → ℕ
+  numberOf (Answers a) = 0
+  numberOf (Refuses n r) = n
+
+  abbrev pub rowOf : Reply A → ℕ
+  rowOf (Answers a) = 0
+  rowOf (Refuses n r) = r
+
+  -- a number of the answer
+  abbrev pub valueOf : (A → ℕ) → Reply A → ℕ
+  valueOf f (Answers a) = f a
+  valueOf f (Refuses n r) = 0
+
+  -- a struct tells a reply: its number, its row and two numbers of its answer
+  pub record Tells (f g : A → ℕ) (reply : Reply A) (told : Told) : Type 0 where
+    pub number : told .number ≡ numberOf reply
+    pub row : told .row ≡ rowOf reply
+    pub value : told .value ≡ valueOf f reply
+    pub flag : told .flag ≡ valueOf g reply
+
+  abbrev pub nothing : A → ℕ
+  nothing a = 0
+
+abbrev pub itself : ℕ → ℕ
+itself n = n
+
+-- the frame, the set or the count of moves that a frame call answers; 0 for unmapped
+abbrev pub numberIn : Answer → ℕ
+numberIn (Mapped f) = f
+numberIn Unmapped = 0
+numberIn (Old f) = f
+numberIn (New f) = f
+numberIn (Freed f) = f
+numberIn (Active s) = s
+numberIn (Moved n) = n
+
+-- what tells mapped from unmapped and new from old: 1 for a page that is mapped and for a frame that is new
+abbrev pub flagIn : Answer → ℕ
+flagIn (Mapped f) = 1
+flagIn Unmapped = 0
+flagIn (Old f) = 0
+flagIn (New f) = 1
+flagIn (Freed f) = 0
+flagIn (Active s) = 0
+flagIn (Moved n) = 0
