@@ -5,10 +5,6 @@ fn step(h: u32, word: u32) -> u32 {
     ((h as u64 * 16777619 + word as u64) % 4294967296) as u32
 }
 
-fn wide(word: u16) -> u32 {
-    word as u32
-}
-
 // The hash of a list's words, where that of the words before them is h.
 pub fn hash_words(first: u32, list: &[u32]) -> u32 {
     let mut h = first;
@@ -26,7 +22,7 @@ pub fn hash_table(table: &[u16], from: usize, to: usize) -> u32 {
     let mut h = 0;
     let mut i = from;
     while i < end {
-        h = step(h, wide(table[i]));
+        h = step(h, table[i] as u32);
         i += 1;
     }
     h

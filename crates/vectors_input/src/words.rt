@@ -22,10 +22,6 @@ fn next_below(most: usize) -> usize
     least(next_word() as usize, most)
 }
 
-fn half(word: u32) -> u16 {
-    (word % 65536) as u16
-}
-
 pub fn next_words(list: &mut [u32]) {
     let mut i = 0;
     while i < list.len() {
@@ -54,7 +50,7 @@ pub fn next_table(room: &mut [u16]) -> &mut [u16] {
     let count = next_below(room.len());
     let mut i = 0;
     while i < count {
-        room[i] = half(next_word());
+        room[i] = (next_word() % 65536) as u16;
         i += 1;
     }
     &mut room[..count]
