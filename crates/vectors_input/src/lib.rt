@@ -1,5 +1,6 @@
 // What the programs that answer vectors share: words.rt reads their input, hash.rt has the hash by which
-// they compare lists, and lines.rt writes their lines.
+// they compare lists, and lines.rt writes their lines. The loop over the cases stands in each `main`, since
+// a function cannot be handed to another.
 mod hash;
 mod lines;
 mod words;
@@ -21,8 +22,8 @@ pub use words::next_table;
 pub use words::next_word;
 pub use words::next_words;
 
-fn least(a: usize, b: usize) -> usize
-    ensures { λ r. ⌜ r ≤ b ⌝ }
+fn at_most(number: usize, most: usize) -> usize
+    ensures { λ r. ⌜ r ≤ most ⌝ }
 {
-    if a < b { a } else { b }
+    if number < most { number } else { most }
 }

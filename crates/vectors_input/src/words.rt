@@ -1,6 +1,6 @@
 // The words of the input, little-endian 32-bit numbers on standard input, and the lists that they fill.
 ghost use Prim.Native.Nat.{_<_, _≤_};
-use crate::least;
+use crate::at_most;
 use board::Board;
 
 fn pair(low: u8, high: u8) -> u32
@@ -15,15 +15,11 @@ pub fn next_word() -> u32 {
     pair(bytes[0], bytes[1]) + 65536 * pair(bytes[2], bytes[3])
 }
 
-// The word that comes next, or the most that it may be.
-fn next_below(most: usize) -> usize
+// A count that comes next, or the most that there is room for.
+fn next_count(most: usize) -> usize
     ensures { λ r. ⌜ r ≤ most ⌝ }
 {
-    least(next_word() as usize, most)
-}
-
-fn half(word: u32) -> u16 {
-    (word % 65536) as u16
+    at_most(next_word() as usize, most)
 }
 
 pub fn next_words(list: &mut [u32]) {
@@ -34,35 +30,36 @@ pub fn next_words(list: &mut [u32]) {
     }
 }
 
-// The bytes that come next, their count first, in the room that is lent for them.
-pub fn next_bytes(room: &mut [u8]) -> &mut [u8] {
-    let count = next_below(room.len());
-    let bytes = &mut room[..count];
-    io::read_full(0, bytes);
-    bytes
-}
-
-// The list that comes next, its length first, in the room that is lent for it.
+// The list that comes next, its length first, in the room that is lent for it. A longer one is cut.
 pub fn next_list(room: &mut [u32]) -> &mut [u32] {
-    let count = next_below(room.len());
+    let count = next_count(room.len());
     let list = &mut room[..count];
     next_words(list);
     list
 }
 
 pub fn next_table(room: &mut [u16]) -> &mut [u16] {
-    let count = next_below(room.len());
+    let count = next_count(room.len());
     let mut i = 0;
     while i < count {
-        room[i] = half(next_word());
+        room[i] = (next_word() % 65536) as u16;
         i += 1;
     }
     &mut room[..count]
 }
 
-// A list of the length that comes next whose word i is (1,000,003 i + 7) modulo 2^32.
+// The bytes that come next, their count first.
+pub fn next_bytes(room: &mut [u8]) -> &mut [u8] {
+    let count = next_count(room.len());
+    let bytes = &mut room[..count];
+    io::read_full(0, bytes);
+    bytes
+}
+
+// A list of the length that comes next, whose words tell whether one is changed: word i is
+// (1,000,003 i + 7) modulo 2^32.
 pub fn marked_list(room: &mut [u32]) -> &mut [u32] {
-    let count = next_below(room.len());
+    let count = next_count(room.len());
     let mut word = 7;
     let mut i = 0;
     while i < count {
@@ -73,9 +70,9 @@ pub fn marked_list(room: &mut [u32]) -> &mut [u32] {
     &mut room[..count]
 }
 
-// A table of the length that comes next whose word i is (7 i + 3) modulo 2^16.
+// The same for a table: word i is (7 i + 3) modulo 2^16.
 pub fn marked_table(room: &mut [u16]) -> &mut [u16] {
-    let count = next_below(room.len());
+    let count = next_count(room.len());
     let mut word = 3;
     let mut i = 0;
     while i < count {

@@ -9,8 +9,8 @@ pub hash-words-spec : {M : Type 1} → statement M
 hash-words-spec =
     tie.close
     (tie.spec
-    (λ first list h₀ i₀ h i. i ≤ length list)
-    (λ first list h₀ i₀ h i. length list - i)
+    (λ before list h₀ i₀ h i. i ≤ length list)
+    (λ before list h₀ i₀ h i. length list - i)
     (λ c. search needs)
     (λ c. search needs)
     (λ c. search needs)
