@@ -28,7 +28,7 @@ pub struct Refusal {
 pub enum RowNames {
     /// Domains of the board.
     Domain,
-    /// Rows of the plan. The meaning of the refusal says whether of VCPUs or of tasks.
+    /// Rows of the plan: of VCPUs for 17 and 21, else of tasks.
     PlanRow,
     /// Nothing; the row is 0.
     Nothing,
@@ -83,7 +83,10 @@ impl fmt::Display for Refusal {
         write!(f, "refused {}", self.number)?;
         match row_names(self.number) {
             RowNames::Domain => write!(f, ", domain {}", self.row)?,
-            RowNames::PlanRow => write!(f, ", row {}", self.row)?,
+            RowNames::PlanRow if matches!(self.number, 17 | 21) => {
+                write!(f, ", VCPU row {}", self.row)?
+            }
+            RowNames::PlanRow => write!(f, ", task row {}", self.row)?,
             RowNames::Nothing => {}
         }
         write!(f, ": {}", self.meaning())

@@ -197,8 +197,8 @@ fn fields_of_rows() {
     assert_eq!(one, Ok(()));
 }
 
-/// Number, meaning and what the row names, from the table of docs/REFUSALS.md. A row of VCPUs or of tasks is
-/// told by the meaning.
+/// Number, meaning and what the row names, from the table of docs/REFUSALS.md. A row of the plan is shown as
+/// what it is there, one of VCPUs or of tasks.
 fn documented() -> Vec<(u32, String, RowNames)> {
     let page = include_str!("../../../docs/REFUSALS.md");
     let rows = page.lines().filter_map(|line| {
@@ -208,7 +208,8 @@ fn documented() -> Vec<(u32, String, RowNames)> {
             "0" => RowNames::Nothing,
             names if names.contains("domain") => RowNames::Domain,
             names if names.contains("VCPU row") || names.contains("task") => {
-                assert_eq!(names.contains("task"), meaning(number).contains("task"));
+                let shown = Refusal { number, row: 0 }.to_string();
+                assert_eq!(names.contains("task"), shown.contains(", task row 0"));
                 RowNames::PlanRow
             }
             names => panic!("a row names {names}?"),
@@ -301,7 +302,8 @@ fn rows_are_shown() {
         let refusal = Refusal { number, row: 77 };
         let shown = match row_names(number) {
             RowNames::Domain => ", domain 77: ",
-            RowNames::PlanRow => ", row 77: ",
+            RowNames::PlanRow if matches!(number, 17 | 21) => ", VCPU row 77: ",
+            RowNames::PlanRow => ", task row 77: ",
             RowNames::Nothing => ": ",
         };
         let expected = format!("refused {number}{shown}{}", refusal.meaning());
