@@ -28,7 +28,7 @@ pub struct Refusal {
 pub enum RowNames {
     /// Domains of the board.
     Domain,
-    /// Rows of the plan. The meaning of the refusal says whether of VCPUs or of tasks.
+    /// Rows of the plan: of VCPUs for 17 and 21, else of tasks.
     PlanRow,
     /// Nothing; the row is 0.
     Nothing,

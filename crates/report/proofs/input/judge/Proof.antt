@@ -41,7 +41,9 @@ judge-tasks-requires c κs =
     let l = c .before .before .before .before .before .before .before in
     let s = entry l in
     let p = s .pre in
-    let vcpus = vcpus-read (s .args .input .now) (s .args .rows .domains) (p .0 .0) (s .args .rows .vcpus) (p .1 .0 .0) _ (l .before .vcpu-space .result) (fits l) (c .before .before .before .before .read-words .ensures) in
+    let read = c .before .before .before .before .read-words .ensures in
+    let vcpus =
+    vcpus-read (s .args .input .now) (s .args .rows .domains) (p .0 .0) (s .args .rows .vcpus) (p .1 .0 .0) _ (l .before .vcpu-space .result) (fits l) read in
     (p .0, ((p .1 .0 .0, p .1 .0 .1, vcpus), p .1 .1))
 
 same-length : tie.Need-same-length

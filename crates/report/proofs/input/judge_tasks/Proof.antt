@@ -67,7 +67,9 @@ returns c =
     let done = c .before .before .before .admit-plan .ensures in
     let board = c .before .before .before .before .before .before .read-board .ensures in
     let reload = reload-read input domains (p .0 .0) _ (c .before .before .before .before .before .before .before .word .ensures) in
-    let tasks = tasks-read input domains (p .0 .0) (s .args .rows .vcpus) (p .1 .0 .0) _ (l .before .task-space .result) (s .args .rows .tasks) (p .1 .1 .0) (fits l) (c .before .before .before .before .before .before .before .before .before .before .read-words .ensures) in (
+    let read = c .before .before .before .before .before .before .before .before .before .before .read-words .ensures in
+    let space = l .before .task-space .result in
+    let tasks = tasks-read input domains (p .0 .0) (s .args .rows .vcpus) (p .1 .0 .0) _ space (s .args .rows .tasks) (p .1 .1 .0) (fits l) read in (
       done .0 ∙ same-reply input _ _ _ _ board reload (p .1 .0 .2) tasks (length (s .args .times .now)),
       done .1 ∙ same-times input _ _ _ _ board reload (p .1 .0 .2) tasks (s .args .times .now),
     )

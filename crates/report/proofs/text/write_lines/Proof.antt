@@ -68,8 +68,9 @@ loop-again c =
     let s = c .before .before .before .before .before .before .before .before .before .before in
     let h = c .before .before .before .before .before .before .loop in
     let w = c .before .before .write-line in
-    let more =
-    line-more (s .args .name .now) (part s) (h .text) (w .last .0) (h .row) _ (h .end) (w .result) (omega (arith, long-part s)) (time s (h .row) (omega arith)) (w .ensures .0 .0) (w .ensures .1) in (
+    let here : h .row < length (part s) = omega (arith, long-part s) in
+    let same = time s (h .row) (omega arith) in
+    let more = line-more (s .args .name .now) (part s) (h .text) (w .last .0) (h .row) _ (h .end) (w .result) here same (w .ensures .0 .0) (w .ensures .1) in (
       omega arith,
       w .kept .0 ∙ h .inv .1,
       omega (arith, s .pre, h .inv .2, w .ensures .0, decimal-length 1 (h .row) (omega (arith, s .pre))),
