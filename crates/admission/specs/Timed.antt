@@ -1,5 +1,4 @@
--- The times of rows, looked for in their order up to the first row that is late: document 01, refusals 21 and 22. They are kept in 48 words,
--- after the first of them, which are known.
+-- The times of rows, in their order up to the first that is late (document 01, refusals 21 and 22): in 48 words, after those known.
 use Prim.Native.Nat.{ℕ, _+_}
 use mathlib.Core.List.{List, _++_, map}
 use mathlib.Core.Path.{_≡_}

@@ -1,5 +1,4 @@
--- The five calls, for every board, table and argument: the reply, the moves, and the board and table afterwards. Document 01, "Board and
--- frame table" and refusals 2 to 14.
+-- The five calls, for every board, table and argument: reply, moves, board and table afterwards. Document 01, refusals 2 to 14.
 use Prim.Native.Nat.{ℕ, _*_}
 use mathlib.Core.Bool.{_&&_}
 use mathlib.Core.List.{List, [], _∷_, _++_}
@@ -114,8 +113,7 @@ abbrev pub withActive : Board → ℕ → ℕ → Board
 withActive b d c =
     record { colours = b .colours; frames = b .frames; domains = b .domains; grants = b .grants; active = set (b .active) d c }
 
--- 9: the set is 0 or has a bit outside the grant. 12: more frames to move than free frames in the new set. 13: the move list, of so many
--- words, is shorter than three words for each move
+-- 9: the set is 0 or has a bit outside the grant. 12: more frames to move than free ones in it. 13: less room than three words a move
 abbrev pub recolourTests : State → ℕ → ℕ → ℕ → List Test
 recolourTests s d c room =
     test 9 (emptyOrOutside (grant (s .board) d) c)

@@ -1,5 +1,4 @@
--- The lent move list after a call: document 01, "the order of triples is left open". The triples are the moves, each once, and the words
--- past them do not change.
+-- The lent move list after a call: the triples are its moves, each once, in an order that document 01 leaves open, then the words as before.
 use Prim.Native.Nat.{ℕ, _*_}
 use mathlib.Core.List.{List, [], _∷_, _++_, List·Permᴰ}
 use mathlib.Core.Path.{_≡_}

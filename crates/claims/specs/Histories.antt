@@ -35,8 +35,7 @@ pub record HistoryClaims : Type 0 where
       → pageOf x < start .board .frames → pageOf y < start .board .frames
       → isOf d (word (run start h .table) (pageOf x)) ≡ true → isOf e (word (run start h .table) (pageOf y)) ≡ true
       → cacheSet (start .board .colours) x ≡ cacheSet (start .board .colours) y → d ≡ e
-  -- Of any board and table: each frame chosen by a domain for a set is free and has a colour of the set, and the choice depends on the
-  -- frames with a colour of the set alone.
+  -- Of any board and table: a frame chosen for a set is free and has a colour of it, and the choice depends on the frames of the set alone.
   pub chosen-is-free :
       (s : State) (d c f : ℕ) → any (eqb f) (choices s d c) ≡ true
       → (f < s .board .frames) × (word (s .table) f ≡ 0) × (inSet (s .board .colours) c f ≡ true)

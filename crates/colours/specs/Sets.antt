@@ -1,5 +1,4 @@
--- Colour sets: document 01, "Colours of the cache". A colour set is a number whose bit c stands for colour c. Its colours are ordered
--- ascending, and their places counted from 0.
+-- Colour sets: document 01, numbers whose bit c stands for colour c. Their colours are ordered ascending, and the places counted from 0.
 use Prim.Native.Nat.{ℕ, _-_, _*_, _/_, _%_, _^_}
 use mathlib.Core.Bool.{Bool, not, _&&_}
 use mathlib.Core.List.{List}

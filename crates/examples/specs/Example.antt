@@ -1,5 +1,4 @@
--- What an example says: an operation, the numbers that it is given and the reply that the document states. It holds where the
--- definition gives that reply, which is a computed test.
+-- What an example says: an operation, its numbers and the reply that the document states. It holds where the definition gives that reply.
 use Prim.Native.Nat.{ℕ}
 use mathlib.Core.Bool.{Bool, true, false, _&&_}
 use mathlib.Core.List.{List, [], _∷_}

@@ -12,7 +12,7 @@ use Rattle.board.specs.Tests.{callTests, callReply}
 use Rattle.board.proofs.Passed.{Accepted, accepted}
 use Rattle.calls.specs.Table.{State}
 use Rattle.calls.specs.Calls.{Answer, Done, Outcome, settle, called, pageTest}
-use Rattle.frames.specs.Checks.{pageReply}
+use Rattle.frames.specs.Steps.{pageReply}
 
 -- a call that is refused, and one that answers and changes nothing
 abbrev pub refused : State → ℕ → ℕ → Outcome

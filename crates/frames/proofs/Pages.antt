@@ -21,8 +21,7 @@ use Rattle.board.specs.Tests.{activeSet, callTests}
 use Rattle.calls.specs.Table.{State, stateOf, word, wordOf, framesWith, mappedTo, isChoice, choices, hasWord, isFree}
 use Rattle.calls.specs.Calls.{Answer, Outcome, Mapped, Unmapped, Old, New, Freed, settle, called, pageTest, only, written, lookAnswer, look, faultDone, fault, release}
 use Rattle.calls.proofs.Settled.{settled-refused, settled-answers}
-use Rattle.frames.specs.Checks.{pageReply}
-use Rattle.frames.specs.Scan.{stop}
+use Rattle.frames.specs.Steps.{pageReply, stop}
 use Rattle.frames.proofs.Called.{refused, answered, page-passed, page-accepted}
 
 -- a page without a frame is not mapped to one

@@ -17,8 +17,7 @@ use Rattle.board.proofs.Passed.{Accepted, accepted}
 use Rattle.calls.specs.Table.{State, stateOf, isFree, isStray, framesWith, isChoice, choices, strays}
 use Rattle.calls.specs.Calls.{Answer, Outcome, Moved, settle, called, pairUp, moveAll, withActive, recolourTests, recolour}
 use Rattle.calls.specs.Moves.{triples, Listed}
-use Rattle.frames.specs.Checks.{recolourReply}
-use Rattle.frames.specs.Moving.{movesOn, Movable}
+use Rattle.frames.specs.Steps.{recolourReply, movesOn, Movable}
 use Rattle.frames.proofs.Called.{refused}
 use Rattle.frames.proofs.Going.{moves-count}
 

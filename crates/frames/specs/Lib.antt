@@ -1,5 +1,3 @@
--- The definitions of `frames`: the answers in document 01's numbers, and what its loops look for and move.
+-- The definitions of `frames`: the answers in document 01's numbers, and what its code works out on its way.
 pub mod Paper
-pub mod Checks
-pub mod Scan
-pub mod Moving
+pub mod Steps

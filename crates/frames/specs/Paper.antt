@@ -1,5 +1,4 @@
--- The answers of the five calls in document 01's numbers: for each case of an answer what the paper calls it, or the refusal's number
--- and row.
+-- The answers of the five calls in document 01's numbers: for each case what the paper calls it, or the refusal's number and row.
 use Rattle.refusal.specs.Reply.{Reply, Answers, Refuses}
 use Rattle.calls.specs.Calls.{Answer, Mapped, Unmapped, Old, New, Freed, Active, Moved}
 use Rattle.frames.specs.declared.mapping.Looked.{Looked}

@@ -5,7 +5,7 @@ ghost use Rattle.board.specs.Paper.{paperChecked};
 ghost use Rattle.calls.specs.Table.{stateOf};
 ghost use Rattle.calls.specs.Calls.{look as lookCall, fault as faultCall, release as releaseCall};
 ghost use Rattle.frames.specs.Paper.{paperLooked, paperFaulted, paperReleased};
-ghost use Rattle.frames.specs.Checks.{pageReply};
+ghost use Rattle.frames.specs.Steps.{pageReply};
 use crate::scan::next_word;
 use crate::scan::word_for;
 use crate::scan::word_or_free;

@@ -6,7 +6,7 @@ ghost use Rattle.calls.specs.Table.{stateOf};
 ghost use Rattle.calls.specs.Calls.{colours as coloursCall, recolour as recolourCall, withActive};
 ghost use Rattle.calls.specs.Moves.{Listed};
 ghost use Rattle.frames.specs.Paper.{paperActive, paperMoved};
-ghost use Rattle.frames.specs.Checks.{recolourReply};
+ghost use Rattle.frames.specs.Steps.{recolourReply};
 use crate::moving::move_all;
 use crate::scan::count_free;
 use crate::scan::count_strays;

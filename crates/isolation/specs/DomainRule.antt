@@ -13,8 +13,7 @@ use Rattle.board.specs.Tests.{boardTests}
 use Rattle.calls.specs.Table.{State, word}
 use Rattle.calls.specs.Calls.{Answer, Move, Outcome, look, fault, release, colours, recolour}
 
--- A call, with the domain that it names, any number, and its arguments: a page for look, fault and release, a set and a move list of its
--- own for recolour.
+-- A call: the domain that it names, any number, and a page for look, fault and release, a set and a move list of its own for recolour.
 pub data Call : Type 0 where
   Look : ℕ → ℕ → Call
   Fault : ℕ → ℕ → Call

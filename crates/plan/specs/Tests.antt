@@ -1,5 +1,4 @@
--- Refusals 15 to 20 as a list of tests in document 01's order. A row is tested for one number before any is tested for the next, and the
--- lowest at fault is named.
+-- Refusals 15 to 20 as a list of tests in document 01's order: one number over all rows before the next, the lowest row at fault first.
 use Prim.Native.Nat.{ℕ, _+_, _-_, _/_, _%_}
 use mathlib.Core.Bool.{Bool, not, _&&_, _||_}
 use mathlib.Core.List.{List, _∷_, _++_}

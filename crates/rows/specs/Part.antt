@@ -19,6 +19,7 @@ nextOwn tasks i v = lowestFrom (isRowOf tasks v) i (taskRows tasks)
 abbrev pub nextOther : List ℕ → ℕ → ℕ → ℕ
 nextOther tasks i v = lowestFrom (λ (j : ℕ). not (isRowOf tasks v j)) i (taskRows tasks)
 
+-- where the part begins and ends, in rows
 unfoldable pub partStart : List ℕ → ℕ → ℕ
 partStart tasks v = nextOwn tasks 0 v
 

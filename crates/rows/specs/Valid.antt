@@ -1,5 +1,4 @@
--- What refusals 15 to 19 leave of a plan: the ranges under which need and times mean what document 01 says. The code that works out a
--- time relies on them.
+-- What refusals 15 to 19 leave of a plan: the ranges on which the code that works out a time relies.
 use Prim.Native.Nat.{ℕ, _+_, _<_, _≤_}
 use mathlib.Core.List.{List}
 use lib.Count.{ones}

@@ -6,8 +6,7 @@ use Prim.Native.Nat.{ℕ, _+_, _-_, _*_, _/_, _%_, _<_, _≤_}
 unfoldable pub supply : ℕ → ℕ → ℕ → ℕ
 supply p q t = let u = t - (p - q) in u / p * q + (u % p - (p - q))
 
--- the first microsecond in which the supply is x, for x above 0: two gaps, the whole budgets before the last unit, and its place in the
--- budget that it is in
+-- the first microsecond in which the supply is x, above 0: two gaps, the budgets before the last unit, and its place in its budget
 unfoldable pub firstSupply : ℕ → ℕ → ℕ → ℕ
 firstSupply p q x = 2 * (p - q) + (x - 1) / q * p + (x - 1) % q + 1
 

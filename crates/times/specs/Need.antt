@@ -1,5 +1,4 @@
--- Need: document 01, an own cost, plus for each earlier row the arrivals in t times the charge of one. Tasks and VCPUs differ in the own
--- cost, the periods and the charges alone.
+-- Need: document 01, an own cost, plus for each earlier row the arrivals in t times the charge of one, of tasks and VCPUs alike.
 use Prim.Native.Nat.{ℕ, zero, suc, _+_, _-_, _*_, _/_}
 
 -- t / T rounded up

@@ -12,8 +12,7 @@ use Rattle.board.specs.Paper.{paperChecked}
 use Rattle.board.specs.Tests.{activeSet}
 use Rattle.calls.specs.Table.{word, wordOf, hasWord}
 use Rattle.calls.specs.Calls.{Old, New, fault}
-use Rattle.frames.specs.Checks.{pageReply}
-use Rattle.frames.specs.Scan.{stop}
+use Rattle.frames.specs.Steps.{pageReply, stop}
 use Rattle.frames.proofs.Called.{told-by, page-refused, page-accepted}
 use Rattle.frames.proofs.Pages.{first-le, fault-none, fault-here, fault-later, fault-new}
 use Rattle.frames.proofs.mapping.fault.Statement.{statement}

@@ -10,7 +10,7 @@ use Rattle.refusal.specs.Reply.{Answers}
 use Rattle.board.specs.Paper.{paperChecked}
 use Rattle.calls.specs.Table.{wordOf, hasWord}
 use Rattle.calls.specs.Calls.{Mapped, look}
-use Rattle.frames.specs.Checks.{pageReply}
+use Rattle.frames.specs.Steps.{pageReply}
 use Rattle.frames.proofs.Called.{told-by, page-refused, page-accepted}
 use Rattle.frames.proofs.Pages.{look-mapped, look-unmapped}
 use Rattle.frames.proofs.mapping.look.Statement.{statement}

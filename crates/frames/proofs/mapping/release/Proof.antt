@@ -5,7 +5,7 @@ use borrow.Author.Needs.{needs}
 use Rattle.refusal.specs.Reply.{Answers}
 use Rattle.calls.specs.Table.{stateOf, mappedTo}
 use Rattle.calls.specs.Calls.{Mapped, lookAnswer, release}
-use Rattle.frames.specs.Checks.{pageReply}
+use Rattle.frames.specs.Steps.{pageReply}
 use Rattle.frames.specs.Paper.{paperLooked}
 use Rattle.frames.proofs.Called.{told-by, page-refused}
 use Rattle.frames.proofs.Pages.{look-refused, look-answered, release-mapped, release-unmapped, mapped-below}

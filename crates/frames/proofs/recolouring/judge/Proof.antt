@@ -17,7 +17,7 @@ use Rattle.board.specs.Tests.{grant, emptyOrOutside, callTests, callReply}
 use Rattle.board.proofs.Passed.{accepted}
 use Rattle.calls.specs.Table.{stateOf, isStray}
 use Rattle.calls.specs.Calls.{Moved, recolourTests}
-use Rattle.frames.specs.Checks.{recolourReply}
+use Rattle.frames.specs.Steps.{recolourReply}
 use Rattle.frames.proofs.Recolours.{held, free, reply-nine, reply-twelve, reply-thirteen, reply-count}
 use Rattle.frames.proofs.recolouring.judge.Statement.{statement}
 use Rattle.frames.proofs.recolouring.judge.Tie as tie

@@ -7,7 +7,7 @@ use Rattle.refusal.specs.Reply.{Answers}
 use Rattle.calls.specs.Table.{stateOf}
 use Rattle.calls.specs.Calls.{Moved}
 use Rattle.frames.specs.Paper.{paperMoved}
-use Rattle.frames.specs.Checks.{recolourReply}
+use Rattle.frames.specs.Steps.{recolourReply}
 use Rattle.frames.proofs.Recolours.{refusal-meets, movable, recolour-meets}
 use Rattle.frames.proofs.recolouring.recolour.Statement.{statement}
 use Rattle.frames.proofs.recolouring.recolour.Tie as tie

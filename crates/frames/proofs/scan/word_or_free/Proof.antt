@@ -8,7 +8,7 @@ use lib.ListN.{length}
 use borrow.Author.Needs.{needs}
 use borrow.Author.Tests.{eq-eqb, ne-eqb}
 use Rattle.lists.proofs.Sought.{Seeking, seek-start, seek-hit, seek-miss, seek-end}
-use Rattle.frames.specs.Scan.{stop}
+use Rattle.frames.specs.Steps.{stop}
 use Rattle.frames.proofs.scan.word_or_free.Statement.{statement}
 use Rattle.frames.proofs.scan.word_or_free.Tie as tie
 
