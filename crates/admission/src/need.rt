@@ -2,8 +2,7 @@
 // the own cost, and for each earlier row the arrivals in t times the charge of one.
 ghost use mathlib.Core.Path.{_≡_};
 ghost use Prim.Native.Nat.{_*_, _≤_, _<_};
-ghost use Rattle.times.specs.Need.{arrivals as arrivalsOf};
-ghost use Rattle.times.specs.Times.{charge as chargeOf, taskNeed, vcpuCharge, vcpuNeed};
+ghost use Rattle.times.specs.Times.{arrivals as arrivalsOf, charge as chargeOf, taskNeed, vcpuCharge, vcpuNeed};
 ghost use Rattle.rows.specs.Words.{vcpuPeriod, vcpuRows, taskRows};
 ghost use Rattle.rows.specs.Valid.{Tasks, Vcpus};
 use crate::read::cost_at;

@@ -1,5 +1,4 @@
--- Refusals 2 to 8 as lists of tests in document 01's order: each test by its name, then those of a board, of the state that a call gets,
--- and of a call. A board that passes 2 to 7 is accepted.
+-- Refusals 2 to 8 as lists of tests in document 01's order: each test by its name, then those of a board, of a call's state, and of a call.
 use Prim.Native.Nat.{ℕ}
 use mathlib.Core.Bool.{Bool, not, _&&_, _||_}
 use mathlib.Core.List.{List, [], _∷_, _++_}
@@ -53,8 +52,7 @@ callerTest b d = test 8 (not (ltb d (b .domains)))
 
 -- 5 to 7, for each domain below the count, the lowest first
 unfoldable pub domainTests : Board → List Test
-domainTests b =
-    each (b .domains) 5 (badGrant b) ++ (each (b .domains) 6 (sharesWithAnother b) ++ each (b .domains) 7 (badActive b))
+domainTests b = each (b .domains) 5 (badGrant b) ++ (each (b .domains) 6 (sharesWithAnother b) ++ each (b .domains) 7 (badActive b))
 
 -- of a board, with a table of so many words: 2 to 7
 unfoldable pub boardTests : Board → ℕ → List Test

@@ -1,9 +1,10 @@
 -- The five calls, for every board, table and argument: reply, moves, board and table afterwards. Document 01, refusals 2 to 14.
 use Prim.Native.Nat.{ℕ, _*_}
 use mathlib.Core.Bool.{_&&_}
-use mathlib.Core.List.{List, [], _∷_, _++_}
+use mathlib.Core.List.{List, [], _∷_, _++_, List·Permᴰ}
+use mathlib.Core.Path.{_≡_}
 use lib.Dec.{ltb}
-use lib.ListN.{length, set}
+use lib.ListN.{length, drop, set}
 use Rattle.lists.specs.Range.{headOr, isEmpty}
 use Rattle.refusal.specs.Reply.{Reply, Answers, Refuses, Test, test, unless}
 use Rattle.board.specs.declared.Board.{Board}
@@ -130,3 +131,14 @@ recolour s d c lent =
       moves = ms;
       next = record { board = withActive (s .board) d c; table = moveAll (s .table) ms };
     })
+
+-- the words of the triples (page, old frame, new frame)
+unfoldable pub triples : List Move → List ℕ
+triples [] = []
+triples (m ∷ ms) = m .page ∷ m .source ∷ m .target ∷ triples ms
+
+-- the lent move list before a call with these moves, and after it: the moves, each once, in an order that is left open, and the rest as it was
+pub record Listed (moves : List Move) (before after : List ℕ) : Type 0 where
+  pub order : List Move
+  pub each-once : List·Permᴰ order moves
+  pub words : after ≡ triples order ++ drop (3 * length order) before

@@ -1,4 +1,3 @@
 -- What the five calls mean, and what they write to a move list.
 pub mod Table
 pub mod Calls
-pub mod Moves

@@ -37,16 +37,14 @@ pub record ColourClaims : Type 0 where
       → (bleachReply n s p ≡ Answers (bleachIndex n s p)) × (layoutReply n s (bleachIndex n s p) ≡ Answers p)
   -- The set of c consecutive colours from f on has these colours and no others.
   pub consecutive-colours : (f c x : ℕ) → has (consecutive f c) x ≡ (leb f x && ltb x (f + c))
-  -- Where the set is 2^k consecutive colours starting at a multiple of 2^k, of N = 2^m, bleaching equals dropping the colour bits above the
-  -- lowest k: of the definition, and of every reply.
+  -- On 2^k consecutive colours from a multiple of 2^k, of N = 2^m, bleaching drops the colour bits above the lowest k: by definition and reply.
   pub aligned-drops-bits :
       (m k j p : ℕ) → isColourSet (2 ^ m) (consecutive (j * 2 ^ k) (2 ^ k)) ≡ true
       → has (consecutive (j * 2 ^ k) (2 ^ k)) (colourOf (2 ^ m) p) ≡ true
       → bleachIndex (2 ^ m) (consecutive (j * 2 ^ k) (2 ^ k)) p ≡ dropBits m k p
   pub aligned-reply :
       (m k j p i : ℕ) → bleachReply (2 ^ m) (consecutive (j * 2 ^ k) (2 ^ k)) p ≡ Answers i → i ≡ dropBits m k p
-  -- On an interval of colours, l to u, bleaching is equation (1) of document 004 with its factor mended: a page a at or above the base b
-  -- goes to b and the index of their distance.
+  -- On an interval of colours bleaching is equation (1) of document 004, its factor mended: page a from base b on goes to b and the index of a − b.
   pub interval-equation :
       (n l u b a : ℕ) → l ≤ u → b ≤ a → isColourSet n (consecutive l (u - l + 1)) ≡ true
       → has (consecutive l (u - l + 1)) (colourOf n (a - b)) ≡ true

@@ -6,8 +6,7 @@ use Rattle.lists.specs.Range.{from, keep, lowestFrom}
 use Rattle.refusal.specs.Reply.{each, unless}
 use Rattle.board.specs.Tests.{domainTests, boardTests, callTests}
 use Rattle.calls.specs.Table.{framesWith, mappedTo, isChoice, choices, strays}
-use Rattle.calls.specs.Calls.{settle, called, look, fault, release, colours, pairUp, moveAll, recolour}
-use Rattle.calls.specs.Moves.{triples}
+use Rattle.calls.specs.Calls.{settle, called, look, fault, release, colours, pairUp, moveAll, recolour, triples}
 use Rattle.isolation.specs.DomainRule.{run}
 use Rattle.colours.specs.Sets.{isColourSet, has, coloursBelow, colourAt, placeOf}
 use Rattle.colours.specs.Cache.{isColourCount, cacheReply}
@@ -17,8 +16,7 @@ use Rattle.rows.specs.Words.{cost, colours-shared}
 use Rattle.rows.specs.Part.{partStart, partEnd, rowsFrom, partOf}
 use Rattle.plan.specs.Tests.{rowTests, planTests}
 use Rattle.times.specs.First.{firstFrom, firstTime}
-use Rattle.times.specs.Need.{arrivals, need}
-use Rattle.times.specs.Times.{charge, taskNeed, timeInPart, taskTime, vcpuCharge, vcpuNeed, vcpuTime}
+use Rattle.times.specs.Times.{arrivals, need, charge, taskNeed, timeInPart, taskTime, vcpuCharge, vcpuNeed, vcpuTime}
 use Rattle.admission.specs.Admission.{timeTests, admissionReply}
 use Rattle.examples.specs.Example.{sameReply, sameList, numbers, timeNumbers, admissionNumbers, holds, allHold}
 use Rattle.examples.specs.Table.{examples}

@@ -1,5 +1,4 @@
--- The examples of document 01 that are marked m, in its order, then the recorder's accident, the plan of the program `admit` and the
--- worked examples of document 004. Later parts add theirs.
+-- The examples of document 01 marked m, in its order, the recorder's accident, the plan of `admit`, and the worked examples of document 004.
 use Prim.Native.Nat.{ℕ}
 use mathlib.Core.List.{List, [], _∷_, _++_}
 use Rattle.refusal.specs.Reply.{Answers, Refuses}
@@ -44,8 +43,7 @@ whole-core = vcpu 10000 10000
 
 -- a task of VCPU 0: period, deadline, set, and a cost that is the same for any count of colours
 abbrev pub task : ℕ → ℕ → ℕ → ℕ → List ℕ
-task period deadline set c =
-    0 ∷ period ∷ deadline ∷ set ∷ c ∷ c ∷ c ∷ c ∷ c ∷ c ∷ c ∷ c ∷ c ∷ c ∷ c ∷ c ∷ c ∷ c ∷ c ∷ c ∷ []
+task period deadline set c = 0 ∷ period ∷ deadline ∷ set ∷ c ∷ c ∷ c ∷ c ∷ c ∷ c ∷ c ∷ c ∷ c ∷ c ∷ c ∷ c ∷ c ∷ c ∷ c ∷ c ∷ []
 
 -- three tasks of period and deadline 10,000, no shared colours: the third cost
 abbrev pub three-tasks : ℕ → List ℕ

@@ -3,8 +3,7 @@
 ghost use mathlib.Core.Path.{_≡_};
 ghost use Prim.Native.Nat.{_<_};
 ghost use Rattle.calls.specs.Table.{stateOf};
-ghost use Rattle.calls.specs.Calls.{colours as coloursCall, recolour as recolourCall, withActive};
-ghost use Rattle.calls.specs.Moves.{Listed};
+ghost use Rattle.calls.specs.Calls.{colours as coloursCall, recolour as recolourCall, withActive, Listed};
 ghost use Rattle.frames.specs.Paper.{paperActive, paperMoved};
 ghost use Rattle.frames.specs.Steps.{recolourReply};
 use crate::moving::move_all;

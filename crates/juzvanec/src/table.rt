@@ -1,8 +1,7 @@
 // The five calls on the frame table for callers in C: document 01, "Board and frame table". The board
 // is lent as its 19 words, and recolour alone changes it.
 ghost use mathlib.Core.Path.{_≡_};
-ghost use Rattle.calls.specs.Calls.{look as lookCall, fault as faultCall, release as releaseCall, colours as coloursCall, recolour as recolourCall};
-ghost use Rattle.calls.specs.Moves.{Listed};
+ghost use Rattle.calls.specs.Calls.{look as lookCall, fault as faultCall, release as releaseCall, colours as coloursCall, recolour as recolourCall, Listed};
 ghost use Rattle.marshal.specs.Words.{wordsLeft, lent};
 ghost use Rattle.marshal.specs.Replies.{numberOf, rowOf, valueOf, numberIn, flagIn};
 use marshal::active;

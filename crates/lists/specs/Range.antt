@@ -1,5 +1,4 @@
--- The numbers of a range that pass a test, ascending: "the lowest", "the next" and "ascending" of document 01 are the head, the tail
--- and the order of such a list. It states no part of document 01 by itself.
+-- The numbers of a range that pass a test: "lowest", "next" and "ascending" of document 01 are the head, the tail and the order of such a list.
 use Prim.Native.Nat.{ℕ, zero, suc, _-_}
 use mathlib.Core.Bool.{Bool, true, false, _||_}
 use mathlib.Core.List.{List, [], _∷_}

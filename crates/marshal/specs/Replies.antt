@@ -1,5 +1,4 @@
--- The numbers that a caller in C is told of a reply: that of the refusal, 0 where the call answers; the refusal's row, 0 where it names
--- none or the call answers; and the numbers of the answer, all 0 on a refusal.
+-- What a caller in C is told of a reply: the refusal's number and row, 0 where the call answers, and the answer's numbers, 0 on a refusal.
 use Prim.Native.Nat.{ℕ}
 use mathlib.Core.Path.{_≡_}
 use Rattle.refusal.specs.Reply.{Reply, Answers, Refuses}

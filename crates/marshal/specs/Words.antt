@@ -1,5 +1,4 @@
--- The 19 words by which a caller in C lends a board: N, F, the domain count, eight grants and eight active sets. `boardOf` is the board that
--- they stand for, `boardWords` the words of a board, and `wordsLeft` the words that a call leaves.
+-- The 19 words by which a caller in C lends a board: N, F, the domain count, eight grants and eight active sets; and those that a call leaves.
 use Prim.Native.Nat.{ℕ, zero, suc}
 use mathlib.Core.List.{List, [], _∷_, _++_}
 use lib.ListN.{getD}

@@ -97,7 +97,8 @@ pub(crate) fn bad_task(board: Board, vcpus: &[u32], tasks: &[u32], row: u32) -> 
     let deadline = known_word(tasks, row, TASK_DEADLINE);
     let set = known_word(tasks, row, TASK_SET);
     let known = (vcpu as usize) < vcpus.len() / VCPU_WORDS;
-    !known | (bad_times(period, deadline) | (bad_set(board, vcpus, vcpu, set) | bad_costs(tasks, row)))
+    !known
+        | (bad_times(period, deadline) | (bad_set(board, vcpus, vcpu, set) | bad_costs(tasks, row)))
 }
 
 // 19: a lower VCPU than the row before.

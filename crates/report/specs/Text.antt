@@ -1,5 +1,4 @@
--- The lines that `admit` prints, as bytes in ASCII: document 01, "Examples from the recorder". `vcpu ROW TIME` and `task ROW TIME` for
--- each row and then `admitted`, or `refused NUMBER ROW` alone, each ended by a newline.
+-- The lines that `admit` prints, in ASCII: `vcpu ROW TIME` and `task ROW TIME` for each row and then `admitted`, or `refused NUMBER ROW` alone.
 use Prim.Native.Nat.{ℕ, zero, suc, _+_, _/_, _%_}
 use mathlib.Core.List.{List, [], _∷_, _++_}
 use lib.Dec.{ltb}

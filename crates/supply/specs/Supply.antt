@@ -1,5 +1,4 @@
--- The least supply of a periodic resource with period P and budget Q: document 01, "Plans" (Shin and Lee 2003). A difference of naturals is
--- 0 where it would be negative, so that "0 if u is negative" and "the larger of 0 and" need no words of their own.
+-- The least supply of a periodic resource of period P and budget Q (document 01; Shin and Lee 2003). A difference of naturals stops at 0.
 use Prim.Native.Nat.{ℕ, _+_, _-_, _*_, _/_, _%_, _<_, _≤_}
 
 -- with u = t − (P − Q): (u div P) × Q + the larger of 0 and (u mod P) − (P − Q)

@@ -12,8 +12,7 @@ use Rattle.lists.proofs.Split.{cases}
 use Rattle.supply.specs.Supply.{supply, firstSupply, Budget}
 use Rattle.supply.proofs.Laws.{first-le, le-supply, le-first}
 use Rattle.rows.specs.Words.{core, vcpuPeriod, budget, taskPeriod, colourSet, cost, colours-shared, vcpuRows, taskRows}
-use Rattle.times.specs.Need.{need}
-use Rattle.times.specs.Times.{charge, taskNeed, vcpuCharge, vcpuNeed}
+use Rattle.times.specs.Times.{need, charge, taskNeed, vcpuCharge, vcpuNeed}
 use Rattle.rows.specs.Valid.{TaskRow, Tasks, VcpuRow, Vcpus}
 use Rattle.times.proofs.Search.{Searchable}
 use Rattle.times.proofs.Needs.{need-mono, own-le, need-le}

@@ -5,7 +5,7 @@ use native.Mathlib.Numerals.{add-one}
 use native.Mathlib.Omega.{arith}
 use mathlib.Core.Logic.{⊎-elim}
 use mathlib.Core.Path.{_≡_, sym, _∙_}
-use Rattle.times.specs.Need.{arrivals, need}
+use Rattle.times.specs.Times.{arrivals, need}
 
 div-mono : (k : ℕ) {a c : ℕ} → a ≤ c → a / k ≤ c / k
 div-mono k {a} {c} h =

@@ -15,8 +15,7 @@ use Rattle.supply.specs.Supply.{supply, Budget}
 use Rattle.supply.proofs.Laws.{supply-budget}
 use Rattle.rows.specs.Words.{vcpuPeriod, taskWord, taskPeriod, deadline, colourSet, cost, colours-shared}
 use Rattle.times.specs.First.{Time, At, Late, firstTime, NoLater}
-use Rattle.times.specs.Need.{arrivals, need}
-use Rattle.times.specs.Times.{charge, taskNeed, timeInPart, vcpuNeed, vcpuTime}
+use Rattle.times.specs.Times.{arrivals, need, charge, taskNeed, timeInPart, vcpuNeed, vcpuTime}
 use Rattle.times.proofs.Search.{first-same, told-first, told-none}
 
 -- a reported time: the supply in it covers the need, and in no earlier microsecond

@@ -1,4 +1,3 @@
 -- Need, and the first microsecond in which the supply covers it.
 pub mod First
-pub mod Need
 pub mod Times

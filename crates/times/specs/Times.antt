@@ -1,5 +1,5 @@
--- Task time and VCPU time: document 01, "Plans". A task's rows are those of its VCPU's part, a VCPU's those of the whole list.
-use Prim.Native.Nat.{ℕ, _+_, _-_, _*_}
+-- Need, task time and VCPU time: document 01, "Plans". A task's rows are those of its VCPU's part, a VCPU's those of the whole list.
+use Prim.Native.Nat.{ℕ, zero, suc, _+_, _-_, _*_, _/_}
 use mathlib.Core.List.{List}
 use lib.Dec.{eqb, leb}
 use Rattle.lists.specs.Choice.{if_then_else_}
@@ -7,7 +7,15 @@ use Rattle.supply.specs.Supply.{supply}
 use Rattle.rows.specs.Words.{core, vcpuPeriod, budget, vcpuOf, taskPeriod, deadline, cost, colours-shared}
 use Rattle.rows.specs.Part.{partStart, partOf}
 use Rattle.times.specs.First.{Time, firstTime}
-use Rattle.times.specs.Need.{need}
+
+-- t / T rounded up
+unfoldable pub arrivals : ℕ → ℕ → ℕ
+arrivals t period = (t + (period - 1)) / period
+
+-- the need of a task or VCPU: an own cost, and the first n rows' arrivals in t times the charge of one
+unfoldable pub need : ℕ → (ℕ → ℕ) → (ℕ → ℕ) → ℕ → ℕ → ℕ
+need own period charge zero t = own
+need own period charge (suc j) t = need own period charge j t + arrivals t (period j) * charge j
 
 -- an arrival of task j charges task i its cost and the reload of each colour that both hold
 unfoldable pub charge : ℕ → List ℕ → ℕ → ℕ → ℕ

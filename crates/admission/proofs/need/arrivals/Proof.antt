@@ -3,7 +3,7 @@ use Prim.Native.Nat.{_+_, _-_}
 use native.Mathlib.Nat.{div-le-self}
 use native.Mathlib.Omega.{arith}
 use mathlib.Core.Path.{refl}
-use Rattle.times.specs.Need.{arrivals}
+use Rattle.times.specs.Times.{arrivals}
 use borrow.Author.Needs.{needs}
 use Rattle.admission.proofs.need.arrivals.Statement.{statement}
 use Rattle.admission.proofs.need.arrivals.Tie as tie

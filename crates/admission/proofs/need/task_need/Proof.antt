@@ -4,8 +4,7 @@ use native.Mathlib.Omega.{arith}
 use mathlib.Core.Path.{_≡_, sym, ap, ap₂, _∙_}
 use Rattle.rows.specs.Words.{taskPeriod, cost}
 use Rattle.rows.specs.Valid.{TaskRow}
-use Rattle.times.specs.Need.{need}
-use Rattle.times.specs.Times.{charge, taskNeed}
+use Rattle.times.specs.Times.{need, charge, taskNeed}
 use Rattle.times.proofs.Needs.{need-next}
 use Rattle.times.proofs.Bounds.{task-need-le}
 use Rattle.admission.proofs.need.task_need.Statement.{statement}

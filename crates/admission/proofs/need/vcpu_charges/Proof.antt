@@ -7,8 +7,7 @@ use mathlib.Core.Path.{_≡_, sym, ap, ap₂, _∙_}
 use borrow.Author.Tests.{eq-eqb, ne-eqb}
 use Rattle.rows.specs.Words.{core, vcpuPeriod, budget}
 use Rattle.rows.specs.Valid.{VcpuRow}
-use Rattle.times.specs.Need.{arrivals}
-use Rattle.times.specs.Times.{vcpuCharge}
+use Rattle.times.specs.Times.{arrivals, vcpuCharge}
 use Rattle.times.proofs.Needs.{arrivals-le}
 use borrow.Author.Needs.{needs}
 use Rattle.admission.proofs.need.vcpu_charges.Statement.{statement}

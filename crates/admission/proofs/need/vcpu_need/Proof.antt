@@ -3,8 +3,7 @@ use Prim.Native.Nat.{ℕ, _+_, _-_, _*_, _≤_}
 use native.Mathlib.Omega.{arith}
 use mathlib.Core.Path.{_≡_, sym, ap, ap₂, _∙_}
 use Rattle.rows.specs.Words.{vcpuPeriod, budget}
-use Rattle.times.specs.Need.{need}
-use Rattle.times.specs.Times.{vcpuCharge, vcpuNeed}
+use Rattle.times.specs.Times.{need, vcpuCharge, vcpuNeed}
 use Rattle.times.proofs.Needs.{need-next}
 use Rattle.times.proofs.Bounds.{vcpu-need-le}
 use Rattle.admission.proofs.need.vcpu_need.Statement.{statement}
