@@ -20,11 +20,11 @@ use Rattle.refusal.proofs.Order.{passed-earlier, passed-later, each-passed}
 use Rattle.colours.proofs.Bits.{ones-pos}
 use Rattle.colours.proofs.Ranges.{count-range, colour-set}
 use Rattle.board.specs.declared.Board.{Board}
-use Rattle.board.specs.Tests.{grant, emptyOrOutside, boardTests, boardReply}
+use Rattle.board.specs.Tests.{grant, boardTests, boardReply}
 use Rattle.board.proofs.Passed.{Passed, split}
 use Rattle.rows.specs.Words.{core, domain, vcpuPeriod, budget, vcpuOf, taskPeriod, deadline, colourSet, costWith, cost, vcpuRows, taskRows}
 use Rattle.rows.specs.Valid.{TaskRow, VcpuRow, Ascending, Plan}
-use Rattle.plan.specs.Tests.{zeroOrAbove, badTimes, badVcpuWords, badTaskWords, badVcpu, badCost, badTask, badOrder, sharesColour, rowTests, planTests, planReply}
+use Rattle.plan.specs.Tests.{zeroOrAbove, badTimes, badVcpuWords, badTaskWords, badVcpu, badCost, badFields, badTask, badOrder, sharesColour, rowTests, planTests, planReply}
 
 -- 15 to 19, test by test
 pub record Tested (b : Board) (reload : ℕ) (vcpus tasks : List ℕ) (room : ℕ) : Type 0 where
@@ -88,16 +88,16 @@ module _ (b : Board) (vcpus tasks : List ℕ) where
     g = grant b (domain vcpus (vcpuOf tasks j))
 
     named : vcpuOf tasks j < vcpuRows vcpus
-    named = ltb-true _ _ (not-false _ (neither (not (ltb (vcpuOf tasks j) (vcpuRows vcpus))) _ e .0))
+    named = ltb-true _ _ (not-false _ (neither (not (ltb (vcpuOf tasks j) (vcpuRows vcpus))) _ (neither (badFields b vcpus tasks j) _ e .0) .0))
 
     task-row : g < 2 ^ b .colours → b .colours ≤ 16 → TaskRow tasks j
     unfolding cost
     task-row below few =
-        let v = neither (not (ltb (vcpuOf tasks j) (vcpuRows vcpus))) _ e in
+        let r = neither (badFields b vcpus tasks j) (any (badCost tasks j) (from 1 16)) e in
+        let v = neither (not (ltb (vcpuOf tasks j) (vcpuRows vcpus))) _ (r .0) in
         let t = neither (badTimes (taskPeriod tasks j) (deadline tasks j)) _ (v .1) in
         let p = neither (zeroOrAbove 1000000 (taskPeriod tasks j)) _ (t .0) in
-        let r = neither (emptyOrOutside g s) (any (badCost tasks j) (from 1 16)) (t .1) in
-        let set = neither (eqb s 0) (not (eqb (bitAnd s g) s)) (r .0) in
+        let set = neither (eqb s 0) (not (eqb (bitAnd s g) s)) (t .1) in
         let period = ranged 1000000 (taskPeriod tasks j) (p .0) in
         let due = ranged (taskPeriod tasks j) (deadline tasks j) (p .1) in
         let inside : s ≤ g = rw (eqb-true (bitAnd s g) s (not-false _ (set .1))) at (and-le-r s g) in

@@ -1,6 +1,6 @@
 // Whether one row is at fault for refusal 17, 18, 19 or 20: document 01, "Refusals in the order
-// tested". Each function gives the answer of the definition that it names. All tests of a row are made
-// where none hangs on another: a row of an accepted plan has passed each of them in any case.
+// tested". Each function gives the answer of the definition that it names. Tests of a row are joined
+// without a branch where none hangs on another: a row of an accepted plan passes them all.
 ghost use mathlib.Core.Path.{_≡_};
 ghost use mathlib.Core.Bool.{false};
 ghost use Prim.Native.Nat.{ℕ, _+_, _*_, _<_};
@@ -8,7 +8,7 @@ ghost use lib.ListN.{length};
 ghost use Rattle.lists.specs.Range.{from, any};
 ghost use Rattle.board.specs.Tests.{grant, emptyOrOutside};
 ghost use Rattle.rows.specs.Words.{taskWord, domain, taskRows};
-ghost use Rattle.plan.specs.Tests.{zeroOrAbove, badTimes, badVcpu, badCost, badTask, badOrder, sharesColour};
+ghost use Rattle.plan.specs.Tests.{zeroOrAbove, badTimes, badVcpu, badCost, badFields, badTask, badOrder, sharesColour};
 use board::Board;
 use board::grant_of;
 use rows::TASK_DEADLINE;
@@ -87,17 +87,25 @@ fn bad_costs(tasks: &[u32], row: u32) -> bool
     false
 }
 
-// 18: VCPU, period, deadline, colour set or a cost.
-pub(crate) fn bad_task(board: Board, vcpus: &[u32], tasks: &[u32], row: u32) -> bool
+// VCPU, period, deadline or colour set.
+fn bad_fields(board: Board, vcpus: &[u32], tasks: &[u32], row: u32) -> bool
     requires { ⌜ row < taskRows (now tasks) ⌝ }
-    ensures { λ r. ⌜ r ≡ badTask board (now (vcpus .entry)) (now (tasks .entry)) row ⌝ }
+    ensures { λ r. ⌜ r ≡ badFields board (now (vcpus .entry)) (now (tasks .entry)) row ⌝ }
 {
     let vcpu = known_word(tasks, row, TASK_VCPU);
     let period = known_word(tasks, row, TASK_PERIOD);
     let deadline = known_word(tasks, row, TASK_DEADLINE);
     let set = known_word(tasks, row, TASK_SET);
     let known = (vcpu as usize) < vcpus.len() / VCPU_WORDS;
-    !known | (bad_times(period, deadline) | (bad_set(board, vcpus, vcpu, set) | bad_costs(tasks, row)))
+    !known | (bad_times(period, deadline) | bad_set(board, vcpus, vcpu, set))
+}
+
+// 18: a field or a cost.
+pub(crate) fn bad_task(board: Board, vcpus: &[u32], tasks: &[u32], row: u32) -> bool
+    requires { ⌜ row < taskRows (now tasks) ⌝ }
+    ensures { λ r. ⌜ r ≡ badTask board (now (vcpus .entry)) (now (tasks .entry)) row ⌝ }
+{
+    bad_fields(board, vcpus, tasks, row) || bad_costs(tasks, row)
 }
 
 // 19: a lower VCPU than the row before.
@@ -117,8 +125,7 @@ pub(crate) fn shares_colour(tasks: &[u32], rows: u32, row: u32) -> bool
     let set = known_word(tasks, row, TASK_SET);
     let mut k = row + 1;
     while k < rows {
-        let shared = set & known_word(tasks, k, TASK_SET);
-        if (known_word(tasks, k, TASK_VCPU) != vcpu) & (shared != 0) {
+        if known_word(tasks, k, TASK_VCPU) != vcpu && set & known_word(tasks, k, TASK_SET) != 0 {
             return true;
         }
         k += 1;
