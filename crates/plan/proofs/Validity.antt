@@ -3,7 +3,7 @@
 use Prim.Native.Nat.{ℕ, _+_, _-_, _/_, _%_, _^_, _<_, _≤_}
 use native.Mathlib.Nat.{pos-of-ne-zero, lt-of-le-of-lt}
 use native.Mathlib.Omega.{arith}
-use mathlib.Core.Bool.{true, false, not}
+use mathlib.Core.Bool.{true, false, not, _||_}
 use mathlib.Core.List.{List, _++_}
 use mathlib.Core.Path.{_≡_}
 use lib.Bits.{bitAnd, and-le-r}
@@ -73,11 +73,11 @@ tasks-most rows words room e =
 module _ (b : Board) (vcpus tasks : List ℕ) where
   vcpu-row : (i : ℕ) → i < vcpuRows vcpus → badVcpu b vcpus i ≡ false → VcpuRow vcpus i × (domain vcpus i < b .domains)
   vcpu-row i h e =
-      let d = neither (not (ltb (domain vcpus i) (b .domains))) _ (neither (ltb 3 (core vcpus i)) _ e .1) in
-      let r = neither (zeroOrAbove 1000000 (vcpuPeriod vcpus i)) _ (d .1) in
+      let t = neither (ltb 3 (core vcpus i) || not (ltb (domain vcpus i) (b .domains))) (badTimes (vcpuPeriod vcpus i) (budget vcpus i)) e in
+      let r = neither (zeroOrAbove 1000000 (vcpuPeriod vcpus i)) _ (t .1) in
       let q = ranged (vcpuPeriod vcpus i) (budget vcpus i) (r .1) in
       let row : VcpuRow vcpus i = record { period-high = ranged 1000000 (vcpuPeriod vcpus i) (r .0) .1; budget-low = q .0; budget-high = q .1 } in
-      (row, ltb-true _ _ (not-false _ (d .0)))
+      (row, ltb-true _ _ (not-false _ (neither (ltb 3 (core vcpus i)) _ (t .0) .1)))
 
   -- a row whose VCPU is given, and whose set lies in a grant of a board that passes 2 to 7
   module _ (j : ℕ) (h : j < taskRows tasks) (e : badTask b vcpus tasks j ≡ false) where

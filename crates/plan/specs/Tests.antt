@@ -30,7 +30,7 @@ badTimes period time = zeroOrAbove 1000000 period || zeroOrAbove period time
 -- 17: core 0 to 3, domain below the count, period 1 to 1,000,000, budget 1 to the period
 abbrev pub badVcpu : Board → List ℕ → ℕ → Bool
 badVcpu b vcpus i =
-    ltb 3 (core vcpus i) || (not (ltb (domain vcpus i) (b .domains)) || badTimes (vcpuPeriod vcpus i) (budget vcpus i))
+    (ltb 3 (core vcpus i) || not (ltb (domain vcpus i) (b .domains))) || badTimes (vcpuPeriod vcpus i) (budget vcpus i)
 
 -- a cost outside 1 to 1,000,000, or above the one before
 abbrev pub badCost : List ℕ → ℕ → ℕ → Bool

@@ -1,6 +1,5 @@
 // Whether one row is at fault for refusal 17, 18, 19 or 20: document 01, "Refusals in the order
-// tested". Each function gives the answer of the definition that it names. Tests of a row are joined
-// without a branch where none hangs on another: a row of an accepted plan passes them all.
+// tested". Each function gives the answer of the definition that it names.
 ghost use mathlib.Core.Path.{_≡_};
 ghost use mathlib.Core.Bool.{false};
 ghost use Prim.Native.Nat.{ℕ, _+_, _*_, _<_};
@@ -38,7 +37,7 @@ fn zero_or_above(limit: u32, x: u32) -> bool
 fn bad_times(period: u32, time: u32) -> bool
     ensures { λ r. ⌜ r ≡ badTimes period time ⌝ }
 {
-    zero_or_above(LONGEST, period) | zero_or_above(period, time)
+    zero_or_above(LONGEST, period) || zero_or_above(period, time)
 }
 
 // 17: core, domain, period or budget.
@@ -49,7 +48,7 @@ pub(crate) fn bad_vcpu(board: Board, vcpus: &[u32], row: u32) -> bool
     let domain = vcpu_word(vcpus, row, VCPU_DOMAIN);
     let period = vcpu_word(vcpus, row, VCPU_PERIOD);
     let budget = vcpu_word(vcpus, row, VCPU_BUDGET);
-    (LAST_CORE < core) | (!(domain < board.domains) | bad_times(period, budget))
+    (LAST_CORE < core) | !(domain < board.domains) || bad_times(period, budget)
 }
 
 // The set is empty, or outside the grant of its VCPU's domain.
@@ -57,7 +56,7 @@ fn bad_set(board: Board, vcpus: &[u32], vcpu: u32, set: u32) -> bool
     ensures { λ r. ⌜ r ≡ emptyOrOutside (grant board (domain (now (vcpus .entry)) vcpu)) set ⌝ }
 {
     let granted = grant_of(board, vcpu_word(vcpus, vcpu, VCPU_DOMAIN));
-    (set == 0) | (set & granted != set)
+    set == 0 || set & granted != set
 }
 
 // Word k of a task's row that is known to be there.
@@ -97,7 +96,7 @@ fn bad_fields(board: Board, vcpus: &[u32], tasks: &[u32], row: u32) -> bool
     let deadline = known_word(tasks, row, TASK_DEADLINE);
     let set = known_word(tasks, row, TASK_SET);
     let known = (vcpu as usize) < vcpus.len() / VCPU_WORDS;
-    !known | (bad_times(period, deadline) | bad_set(board, vcpus, vcpu, set))
+    !known || (bad_times(period, deadline) || bad_set(board, vcpus, vcpu, set))
 }
 
 // 18: a field or a cost.
