@@ -2,8 +2,8 @@
 // the own cost, and for each earlier row the arrivals in t times the charge of one.
 ghost use mathlib.Core.Path.{_≡_};
 ghost use Prim.Native.Nat.{_*_, _≤_, _<_};
-ghost use Rattle.times.specs.Times.{arrivals as arrivalsOf, charge as chargeOf, taskNeed, vcpuCharge, vcpuNeed};
-ghost use Rattle.rows.specs.Words.{vcpuPeriod, vcpuRows, taskRows};
+ghost use Rattle.times.specs.Times.{arrivals as arrivalsOf, charge as chargeOf, taskNeed, vcpuNeed};
+ghost use Rattle.rows.specs.Words.{vcpuPeriod, budget, vcpuRows, taskRows};
 ghost use Rattle.rows.specs.Valid.{Tasks, Vcpus};
 use crate::read::cost_at;
 use crate::read::task_at;
@@ -44,25 +44,26 @@ pub(crate) fn task_need(reload: u32, part: &[u32], i: u32, t: u32) -> u64
     sum
 }
 
-// What the arrivals of VCPU j in t charge VCPU i: its budget each, or nothing where it is of another core.
-fn vcpu_charges(vcpus: &[u32], i: u32, j: u32, t: u32) -> u64
-    requires { ⌜ (t ≤ 1000000) × Vcpus (now vcpus) × (i < vcpuRows (now vcpus)) × (j < vcpuRows (now vcpus)) ⌝ }
-    ensures { λ r. ⌜ r ≡ arrivalsOf t (vcpuPeriod (now (vcpus .entry)) j) * vcpuCharge (now (vcpus .entry)) i j ⌝ }
+// What the arrivals of VCPU j in t charge another of its core: its budget each.
+fn vcpu_charges(vcpus: &[u32], j: u32, t: u32) -> u64
+    requires { ⌜ (t ≤ 1000000) × Vcpus (now vcpus) × (j < vcpuRows (now vcpus)) ⌝ }
+    ensures { λ r. ⌜ r ≡ arrivalsOf t (vcpuPeriod (now (vcpus .entry)) j) * budget (now (vcpus .entry)) j ⌝ }
 {
-    if vcpu_at(vcpus, j, VCPU_CORE) != vcpu_at(vcpus, i, VCPU_CORE) {
-        return 0;
-    }
     arrivals(t, vcpu_at(vcpus, j, VCPU_PERIOD)) * (vcpu_at(vcpus, j, VCPU_BUDGET) as u64)
 }
 
+// A VCPU of another core charges nothing.
 pub(crate) fn vcpu_need(vcpus: &[u32], i: u32, t: u32) -> u64
     requires { ⌜ (t ≤ 1000000) × Vcpus (now vcpus) × (i < vcpuRows (now vcpus)) ⌝ }
     ensures { λ r. ⌜ r ≡ vcpuNeed (now (vcpus .entry)) i t ⌝ }
 {
+    let core = vcpu_at(vcpus, i, VCPU_CORE);
     let mut sum = vcpu_at(vcpus, i, VCPU_BUDGET) as u64;
     let mut j = 0;
     while j < i {
-        sum += vcpu_charges(vcpus, i, j, t);
+        if vcpu_at(vcpus, j, VCPU_CORE) == core {
+            sum += vcpu_charges(vcpus, j, t);
+        }
         j += 1;
     }
     sum

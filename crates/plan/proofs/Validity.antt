@@ -3,7 +3,7 @@
 use Prim.Native.Nat.{ℕ, _+_, _-_, _/_, _%_, _^_, _<_, _≤_}
 use native.Mathlib.Nat.{pos-of-ne-zero, lt-of-le-of-lt}
 use native.Mathlib.Omega.{arith}
-use mathlib.Core.Bool.{true, false, not}
+use mathlib.Core.Bool.{true, false, not, _||_}
 use mathlib.Core.List.{List, _++_}
 use mathlib.Core.Path.{_≡_}
 use lib.Bits.{bitAnd, and-le-r}
@@ -20,11 +20,11 @@ use Rattle.refusal.proofs.Order.{passed-earlier, passed-later, each-passed}
 use Rattle.colours.proofs.Bits.{ones-pos}
 use Rattle.colours.proofs.Ranges.{count-range, colour-set}
 use Rattle.board.specs.declared.Board.{Board}
-use Rattle.board.specs.Tests.{grant, emptyOrOutside, boardTests, boardReply}
+use Rattle.board.specs.Tests.{grant, boardTests, boardReply}
 use Rattle.board.proofs.Passed.{Passed, split}
 use Rattle.rows.specs.Words.{core, domain, vcpuPeriod, budget, vcpuOf, taskPeriod, deadline, colourSet, costWith, cost, vcpuRows, taskRows}
 use Rattle.rows.specs.Valid.{TaskRow, VcpuRow, Ascending, Plan}
-use Rattle.plan.specs.Tests.{zeroOrAbove, badTimes, badVcpuWords, badTaskWords, badVcpu, badCost, badTask, badOrder, sharesColour, rowTests, planTests, planReply}
+use Rattle.plan.specs.Tests.{zeroOrAbove, badTimes, badVcpuWords, badTaskWords, badVcpu, badCost, badFields, badTask, badOrder, sharesColour, rowTests, planTests, planReply}
 
 -- 15 to 19, test by test
 pub record Tested (b : Board) (reload : ℕ) (vcpus tasks : List ℕ) (room : ℕ) : Type 0 where
@@ -73,11 +73,11 @@ tasks-most rows words room e =
 module _ (b : Board) (vcpus tasks : List ℕ) where
   vcpu-row : (i : ℕ) → i < vcpuRows vcpus → badVcpu b vcpus i ≡ false → VcpuRow vcpus i × (domain vcpus i < b .domains)
   vcpu-row i h e =
-      let d = neither (not (ltb (domain vcpus i) (b .domains))) _ (neither (ltb 3 (core vcpus i)) _ e .1) in
-      let r = neither (zeroOrAbove 1000000 (vcpuPeriod vcpus i)) _ (d .1) in
+      let t = neither (ltb 3 (core vcpus i) || not (ltb (domain vcpus i) (b .domains))) (badTimes (vcpuPeriod vcpus i) (budget vcpus i)) e in
+      let r = neither (zeroOrAbove 1000000 (vcpuPeriod vcpus i)) _ (t .1) in
       let q = ranged (vcpuPeriod vcpus i) (budget vcpus i) (r .1) in
       let row : VcpuRow vcpus i = record { period-high = ranged 1000000 (vcpuPeriod vcpus i) (r .0) .1; budget-low = q .0; budget-high = q .1 } in
-      (row, ltb-true _ _ (not-false _ (d .0)))
+      (row, ltb-true _ _ (not-false _ (neither (ltb 3 (core vcpus i)) _ (t .0) .1)))
 
   -- a row whose VCPU is given, and whose set lies in a grant of a board that passes 2 to 7
   module _ (j : ℕ) (h : j < taskRows tasks) (e : badTask b vcpus tasks j ≡ false) where
@@ -88,16 +88,16 @@ module _ (b : Board) (vcpus tasks : List ℕ) where
     g = grant b (domain vcpus (vcpuOf tasks j))
 
     named : vcpuOf tasks j < vcpuRows vcpus
-    named = ltb-true _ _ (not-false _ (neither (not (ltb (vcpuOf tasks j) (vcpuRows vcpus))) _ e .0))
+    named = ltb-true _ _ (not-false _ (neither (not (ltb (vcpuOf tasks j) (vcpuRows vcpus))) _ (neither (badFields b vcpus tasks j) _ e .0) .0))
 
     task-row : g < 2 ^ b .colours → b .colours ≤ 16 → TaskRow tasks j
     unfolding cost
     task-row below few =
-        let v = neither (not (ltb (vcpuOf tasks j) (vcpuRows vcpus))) _ e in
+        let r = neither (badFields b vcpus tasks j) (any (badCost tasks j) (from 1 16)) e in
+        let v = neither (not (ltb (vcpuOf tasks j) (vcpuRows vcpus))) _ (r .0) in
         let t = neither (badTimes (taskPeriod tasks j) (deadline tasks j)) _ (v .1) in
         let p = neither (zeroOrAbove 1000000 (taskPeriod tasks j)) _ (t .0) in
-        let r = neither (emptyOrOutside g s) (any (badCost tasks j) (from 1 16)) (t .1) in
-        let set = neither (eqb s 0) (not (eqb (bitAnd s g) s)) (r .0) in
+        let set = neither (eqb s 0) (not (eqb (bitAnd s g) s)) (t .1) in
         let period = ranged 1000000 (taskPeriod tasks j) (p .0) in
         let due = ranged (taskPeriod tasks j) (deadline tasks j) (p .1) in
         let inside : s ≤ g = rw (eqb-true (bitAnd s g) s (not-false _ (set .1))) at (and-le-r s g) in

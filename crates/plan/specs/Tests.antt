@@ -28,18 +28,20 @@ badTimes period time = zeroOrAbove 1000000 period || zeroOrAbove period time
 
 -- 17: core 0 to 3, domain below the count, period 1 to 1,000,000, budget 1 to the period
 abbrev pub badVcpu : Board → List ℕ → ℕ → Bool
-badVcpu b vcpus i = ltb 3 (core vcpus i) || (not (ltb (domain vcpus i) (b .domains)) || badTimes (vcpuPeriod vcpus i) (budget vcpus i))
+badVcpu b vcpus i = (ltb 3 (core vcpus i) || not (ltb (domain vcpus i) (b .domains))) || badTimes (vcpuPeriod vcpus i) (budget vcpus i)
 
 -- a cost outside 1 to 1,000,000, or above the one before
 abbrev pub badCost : List ℕ → ℕ → ℕ → Bool
 badCost tasks j k = zeroOrAbove 1000000 (costWith tasks j k) || (ltb 1 k && ltb (costWith tasks j (k - 1)) (costWith tasks j k))
 
--- 18: a given VCPU row, period 1 to 1,000,000, deadline 1 to the period, a set that is not empty inside its domain's grant, sixteen costs
-abbrev pub badTask : Board → List ℕ → List ℕ → ℕ → Bool
-badTask b vcpus tasks j =
+-- 18: a given VCPU row, period 1 to 1,000,000, deadline 1 to the period, a set that is not empty inside its domain's grant; sixteen costs
+abbrev pub badFields : Board → List ℕ → List ℕ → ℕ → Bool
+badFields b vcpus tasks j =
     not (ltb (vcpuOf tasks j) (vcpuRows vcpus))
-    || (badTimes (taskPeriod tasks j) (deadline tasks j)
-    || (emptyOrOutside (grant b (domain vcpus (vcpuOf tasks j))) (colourSet tasks j) || any (badCost tasks j) (from 1 16)))
+    || (badTimes (taskPeriod tasks j) (deadline tasks j) || emptyOrOutside (grant b (domain vcpus (vcpuOf tasks j))) (colourSet tasks j))
+
+abbrev pub badTask : Board → List ℕ → List ℕ → ℕ → Bool
+badTask b vcpus tasks j = badFields b vcpus tasks j || any (badCost tasks j) (from 1 16)
 
 -- 19: it names a lower VCPU than the row before
 abbrev pub badOrder : List ℕ → ℕ → Bool

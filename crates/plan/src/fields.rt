@@ -1,6 +1,5 @@
 // Whether one row is at fault for refusal 17, 18, 19 or 20: document 01, "Refusals in the order
-// tested". Each function gives the answer of the definition that it names. All tests of a row are made
-// where none hangs on another: a row of an accepted plan has passed each of them in any case.
+// tested". Each function gives the answer of the definition that it names.
 ghost use mathlib.Core.Path.{_≡_};
 ghost use mathlib.Core.Bool.{false};
 ghost use Prim.Native.Nat.{ℕ, _+_, _*_, _<_};
@@ -8,7 +7,7 @@ ghost use lib.ListN.{length};
 ghost use Rattle.lists.specs.Range.{from, any};
 ghost use Rattle.board.specs.Tests.{grant, emptyOrOutside};
 ghost use Rattle.rows.specs.Words.{taskWord, domain, taskRows};
-ghost use Rattle.plan.specs.Tests.{zeroOrAbove, badTimes, badVcpu, badCost, badTask, badOrder, sharesColour};
+ghost use Rattle.plan.specs.Tests.{zeroOrAbove, badTimes, badVcpu, badCost, badFields, badTask, badOrder, sharesColour};
 use board::Board;
 use board::grant_of;
 use rows::TASK_DEADLINE;
@@ -38,7 +37,7 @@ fn zero_or_above(limit: u32, x: u32) -> bool
 fn bad_times(period: u32, time: u32) -> bool
     ensures { λ r. ⌜ r ≡ badTimes period time ⌝ }
 {
-    zero_or_above(LONGEST, period) | zero_or_above(period, time)
+    zero_or_above(LONGEST, period) || zero_or_above(period, time)
 }
 
 // 17: core, domain, period or budget.
@@ -49,7 +48,7 @@ pub(crate) fn bad_vcpu(board: Board, vcpus: &[u32], row: u32) -> bool
     let domain = vcpu_word(vcpus, row, VCPU_DOMAIN);
     let period = vcpu_word(vcpus, row, VCPU_PERIOD);
     let budget = vcpu_word(vcpus, row, VCPU_BUDGET);
-    (LAST_CORE < core) | (!(domain < board.domains) | bad_times(period, budget))
+    (LAST_CORE < core) | !(domain < board.domains) || bad_times(period, budget)
 }
 
 // The set is empty, or outside the grant of its VCPU's domain.
@@ -57,7 +56,7 @@ fn bad_set(board: Board, vcpus: &[u32], vcpu: u32, set: u32) -> bool
     ensures { λ r. ⌜ r ≡ emptyOrOutside (grant board (domain (now (vcpus .entry)) vcpu)) set ⌝ }
 {
     let granted = grant_of(board, vcpu_word(vcpus, vcpu, VCPU_DOMAIN));
-    (set == 0) | (set & granted != set)
+    set == 0 || set & granted != set
 }
 
 // Word k of a task's row that is known to be there.
@@ -87,18 +86,25 @@ fn bad_costs(tasks: &[u32], row: u32) -> bool
     false
 }
 
-// 18: VCPU, period, deadline, colour set or a cost.
-pub(crate) fn bad_task(board: Board, vcpus: &[u32], tasks: &[u32], row: u32) -> bool
+// VCPU, period, deadline or colour set.
+fn bad_fields(board: Board, vcpus: &[u32], tasks: &[u32], row: u32) -> bool
     requires { ⌜ row < taskRows (now tasks) ⌝ }
-    ensures { λ r. ⌜ r ≡ badTask board (now (vcpus .entry)) (now (tasks .entry)) row ⌝ }
+    ensures { λ r. ⌜ r ≡ badFields board (now (vcpus .entry)) (now (tasks .entry)) row ⌝ }
 {
     let vcpu = known_word(tasks, row, TASK_VCPU);
     let period = known_word(tasks, row, TASK_PERIOD);
     let deadline = known_word(tasks, row, TASK_DEADLINE);
     let set = known_word(tasks, row, TASK_SET);
     let known = (vcpu as usize) < vcpus.len() / VCPU_WORDS;
-    !known
-        | (bad_times(period, deadline) | (bad_set(board, vcpus, vcpu, set) | bad_costs(tasks, row)))
+    !known || (bad_times(period, deadline) || bad_set(board, vcpus, vcpu, set))
+}
+
+// 18: a field or a cost.
+pub(crate) fn bad_task(board: Board, vcpus: &[u32], tasks: &[u32], row: u32) -> bool
+    requires { ⌜ row < taskRows (now tasks) ⌝ }
+    ensures { λ r. ⌜ r ≡ badTask board (now (vcpus .entry)) (now (tasks .entry)) row ⌝ }
+{
+    bad_fields(board, vcpus, tasks, row) || bad_costs(tasks, row)
 }
 
 // 19: a lower VCPU than the row before.
@@ -118,8 +124,7 @@ pub(crate) fn shares_colour(tasks: &[u32], rows: u32, row: u32) -> bool
     let set = known_word(tasks, row, TASK_SET);
     let mut k = row + 1;
     while k < rows {
-        let shared = set & known_word(tasks, k, TASK_SET);
-        if (known_word(tasks, k, TASK_VCPU) != vcpu) & (shared != 0) {
+        if known_word(tasks, k, TASK_VCPU) != vcpu && set & known_word(tasks, k, TASK_SET) != 0 {
             return true;
         }
         k += 1;

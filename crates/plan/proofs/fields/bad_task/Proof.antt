@@ -1,47 +1,20 @@
--- `plan::fields::bad_task` meets its contract: the tests of the words that were read.
+-- `plan::fields::bad_task` meets its contract, test by test.
+use mathlib.Core.Path.{sym, _∙_}
 use borrow.Author.Needs.{needs}
 use Rattle.plan.proofs.fields.bad_task.Statement.{statement}
 use Rattle.plan.proofs.fields.bad_task.Tie as tie
 
-known-word-requires : tie.Need-known-word-requires
-known-word-requires c κs = search needs
-
-known-word-requires-2 : tie.Need-known-word-requires-2
-known-word-requires-2 c κs = search needs
-
-known-word-requires-3 : tie.Need-known-word-requires-3
-known-word-requires-3 c κs = search needs
-
-known-word-requires-4 : tie.Need-known-word-requires-4
-known-word-requires-4 c κs = search needs
-
-cast-known : tie.Need-cast-known
-cast-known c = search needs
-
-bad-times-requires : tie.Need-bad-times-requires
-bad-times-requires c κs = search needs
-
-bad-set-requires : tie.Need-bad-set-requires
-bad-set-requires c κs = search needs
+bad-fields-requires : tie.Need-bad-fields-requires
+bad-fields-requires c κs = search needs
 
 bad-costs-requires : tie.Need-bad-costs-requires
 bad-costs-requires c κs = search needs
 
 returns : tie.Need-returns
-returns c =
-    let d = c .before .before .before in
-    rw (c .bad-costs .ensures, c .before .bad-set .ensures, c .before .before .bad-times .ensures, d .known-word4 .ensures, d .before .known-word3 .ensures, d .before .before .known-word2 .ensures, d .before .before .before .known-word .ensures)
+returns c = rw (← c .before .bad-fields .ensures, c .if1 .taken)
+
+returns-2 : tie.Need-returns-2
+returns-2 c = rw (← c .before .before .bad-fields .ensures, c .before .if1 .left, c .bad-costs .ensures)
 
 pub bad-task-spec : {M : Type 1} → statement M
-bad-task-spec =
-    tie.close
-    (tie.spec
-    known-word-requires
-    known-word-requires-2
-    known-word-requires-3
-    known-word-requires-4
-    cast-known
-    bad-times-requires
-    bad-set-requires
-    bad-costs-requires
-    returns)
+bad-task-spec = tie.close (tie.spec bad-fields-requires bad-costs-requires returns returns-2)

@@ -21,7 +21,12 @@ bad-times-requires c κs = search needs
 returns : tie.Need-returns
 returns c =
     let d = c .before .before in
-    rw (c .bad-times .ensures, d .vcpu-word4 .ensures, d .before .vcpu-word3 .ensures, d .before .before .vcpu-word2 .ensures, d .before .before .before .vcpu-word .ensures)
+    simp (← d .before .before .before .vcpu-word .ensures, ← d .before .before .vcpu-word2 .ensures, c .if1 .taken)
+
+returns-2 : tie.Need-returns-2
+returns-2 c =
+    let d = c .before .before .before in
+    simp (← d .before .before .before .vcpu-word .ensures, ← d .before .before .vcpu-word2 .ensures, c .before .if1 .left, c .bad-times .ensures, d .before .vcpu-word3 .ensures, d .vcpu-word4 .ensures)
 
 pub bad-vcpu-spec : {M : Type 1} → statement M
 bad-vcpu-spec =
@@ -32,4 +37,5 @@ bad-vcpu-spec =
     vcpu-word-requires-3
     vcpu-word-requires-4
     bad-times-requires
-    returns)
+    returns
+    returns-2)

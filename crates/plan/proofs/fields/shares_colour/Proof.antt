@@ -3,7 +3,9 @@
 use Prim.Native.Nat.{_-_, _≤_}
 use native.Mathlib.Omega.{arith}
 use mathlib.Core.Bool.{true, false}
+use mathlib.Core.Logic.{⊎-elim}
 use mathlib.Core.Path.{_≡_, sym, _∙_}
+use borrow.Author.Tests.{eq-eqb, ne-eqb}
 use Rattle.lists.proofs.Sought.{anyAhead, any-hit, any-miss, any-end}
 use Rattle.rows.specs.Words.{vcpuOf, colourSet, taskRows}
 use Rattle.plan.specs.Tests.{sharesColour}
@@ -17,10 +19,7 @@ Inv-loop tasks rows row vcpu set k₀ k = (k ≤ rows) × (vcpu ≡ vcpuOf tasks
 abbrev μ-loop : tie.MeasureT-loop
 μ-loop tasks rows row vcpu set k₀ k = rows - k
 
--- the places: the entry and the turn of the loop after its calls
-abbrev turn : tie.After-known-word4 Inv-loop μ-loop → tie.In-loop Inv-loop μ-loop
-turn c = c .before .before
-
+-- the places: the entry and the turn of the loop
 abbrev entry : tie.In-loop Inv-loop μ-loop → tie.Start Inv-loop μ-loop
 entry c = c .before .before .before .before .before
 
@@ -47,10 +46,10 @@ known-word-requires-4 c κs = omega arith
 
 returns : tie.Need-returns Inv-loop μ-loop
 returns c =
-    let d = turn (c .before) in
+    let d = c .before .before .before .before in
     let a = entry d .args in
     let h = d .before .loop in
-    let here : sharing (a .tasks .now) (a .row) (h .k) ≡ true = simp (← h .inv .1, ← h .inv .2, ← c .before .known-word4 .ensures, ← c .before .before .known-word3 .ensures) (c .if1 .taken) in
+    let here : sharing (a .tasks .now) (a .row) (h .k) ≡ true = simp (← h .inv .1, ← h .inv .2, ← c .before .known-word4 .ensures, ← c .before .before .before .known-word3 .ensures, ne-eqb _ _ (c .before .before .if1 .taken), c .if2 .taken) in
     sym (h .inv .3 ∙ any-hit (sharing (a .tasks .now) (a .row)) (h .k) (taskRows (a .tasks .now)) (omega arith) here)
 
 add-k-2 : tie.Need-add-k-2 Inv-loop μ-loop
@@ -61,10 +60,14 @@ loop-less c = omega arith
 
 loop-again : tie.Need-loop-again Inv-loop μ-loop
 loop-again c =
-    let d = turn (c .before) in
+    let d = c .before .before in
     let a = entry d .args in
     let h = d .before .loop in
-    let here : sharing (a .tasks .now) (a .row) (h .k) ≡ false = simp (← h .inv .1, ← h .inv .2, ← c .before .known-word4 .ensures, ← c .before .before .known-word3 .ensures) (c .if1 .left) in
+    let here : sharing (a .tasks .now) (a .row) (h .k) ≡ false =
+    ⊎-elim
+    (λ w. simp (← h .inv .1, ← h .inv .2, ← w .1 .ensures, ← c .before .known-word3 .ensures, ne-eqb _ _ (w .0 .taken), w .2 .left))
+    (λ w. simp (← h .inv .1, ← c .before .known-word3 .ensures, eq-eqb _ _ (w .left)))
+    (c .if1 .came) in
     (omega arith, h .inv .1, h .inv .2, h .inv .3 ∙ any-miss (sharing (a .tasks .now) (a .row)) (h .k) (taskRows (a .tasks .now)) (omega arith) here)
 
 returns-2 : tie.Need-returns-2 Inv-loop μ-loop
