@@ -2,7 +2,7 @@
 use Prim.Native.Nat.{ℕ, suc, _+_, _<_, _≤_}
 use native.Mathlib.Omega.{arith}
 use native.Mathlib.Numerals.{add-one}
-use mathlib.Core.List.{List, [], _∷_, _++_, append-assoc}
+use mathlib.Core.List.{List, [], _∷_, _++_}
 use mathlib.Core.Path.{_≡_, sym, ap, _∙_}
 use lib.ListN.{length, drop, set, getD, length-append, drop-of-length-le}
 use lib.Seq.{sets, sets-eq, drop-cons}
@@ -36,16 +36,15 @@ line-size name a b =
     let outer : length (decimal a ++ (32 ∷ (decimal b ++ (10 ∷ [])))) ≡ length (decimal a) + suc (length (decimal b ++ (10 ∷ []))) = length-append (decimal a) (32 ∷ (decimal b ++ (10 ∷ []))) in
     length-append name (decimal a ++ (32 ∷ (decimal b ++ (10 ∷ [])))) ∙ omega (arith, inner, outer)
 
--- a line by its parts: the name, a number and a space, a number and a newline
-pub line-written : (name l : List ℕ) (a b at p q : ℕ) → p ≡ at + length name → q ≡ p + length (decimal a) + 1
-    → sets (sets (sets l at name) p (decimal a ++ (32 ∷ []))) q (decimal b ++ (10 ∷ [])) ≡ sets l at (line name a b)
+-- a line by its parts: the name, a number, a space, a number, a newline
+pub line-written : (name l : List ℕ) (a b at p q e : ℕ) → p ≡ at + length name → q ≡ p + length (decimal a) → e ≡ q + 1 + length (decimal b)
+    → set (sets (set (sets (sets l at name) p (decimal a)) q 32) (q + 1) (decimal b)) e 10 ≡ sets l at (line name a b)
 unfolding line
-line-written name l a b at p q hp hq =
-    let rest : List ℕ = decimal b ++ (10 ∷ []) in
-    let long : length (decimal a ++ (32 ∷ [])) ≡ length (decimal a) + 1 = length-append (decimal a) (32 ∷ []) in
-    sets-append (decimal a ++ (32 ∷ [])) rest (sets l at name) p q (omega (arith, hq, long))
-    ∙ ap (λ (t : List ℕ). sets (sets l at name) p t) (append-assoc (decimal a) (32 ∷ []) rest)
-    ∙ sets-append name (decimal a ++ (32 ∷ rest)) l at p hp
+line-written name l a b at p q e hp hq he =
+    sets-append (decimal b) (10 ∷ []) (set (sets (sets l at name) p (decimal a)) q 32) (q + 1) e he
+    ∙ ap (λ (k : ℕ). sets (set (sets (sets l at name) p (decimal a)) q 32) k (decimal b ++ (10 ∷ []))) (add-one q)
+    ∙ sets-append (decimal a) (32 ∷ (decimal b ++ (10 ∷ []))) (sets l at name) p q hq
+    ∙ sets-append name (decimal a ++ (32 ∷ (decimal b ++ (10 ∷ [])))) l at p hp
 
 module _ (name times : List ℕ) where
   lines-next : (row : ℕ) → row < length times → linesFrom name row (drop row times) ≡ line name row (getD times row 0) ++ linesFrom name (row + 1) (drop (row + 1) times)

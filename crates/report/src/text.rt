@@ -2,7 +2,6 @@
 // recorder". Each function answers the place after what it wrote.
 ghost use mathlib.Core.Path.{_≡_};
 ghost use Prim.Native.Nat.{_+_, _*_, _≤_, _<_};
-ghost use mathlib.Core.List.{[], _∷_, _++_};
 ghost use lib.ListN.{length, take, drop};
 ghost use lib.Seq.{sets};
 ghost use Rattle.report.specs.Text.{decimal, line, linesFrom, refusedName, admittedLines, over};
@@ -35,26 +34,18 @@ fn write_decimal(text: &mut [u8], at: usize, n: u32) -> usize
     }
 }
 
-// A number of at most 10 digits and the byte after it.
-fn write_number(text: &mut [u8], at: usize, n: u32, after: u8) -> usize
-    requires { ⌜ at + 11 ≤ length (now text) ⌝ }
-    ensures { λ r. ⌜ (r ≡ at + length (decimal n) + 1) × (r ≤ at + 11) ⌝ }
-    ensures { λ r. ⌜ now (text .exit) ≡ sets (now (text .entry)) at (decimal n ++ (after ∷ [])) ⌝ }
-{
-    let end = write_decimal(text, at, n);
-    text[end] = after;
-    end + 1
-}
-
-// A line of a word and two numbers.
+// A line of a word and two numbers, each of at most 10 digits.
 fn write_line(text: &mut [u8], at: usize, name: &[u8], a: u32, b: u32) -> usize
     requires { ⌜ at + length (now name) + 22 ≤ length (now text) ⌝ }
     ensures { λ r. ⌜ (r ≡ at + length (line (now (name .entry)) a b)) × (r ≤ at + length (now (name .entry)) + length (decimal a) + 12) ⌝ }
     ensures { λ r. ⌜ now (text .exit) ≡ sets (now (text .entry)) at (line (now (name .entry)) a b) ⌝ }
 {
     let after_name = write_bytes(text, at, name);
-    let after_space = write_number(text, after_name, a, 32);
-    write_number(text, after_space, b, 10)
+    let space = write_decimal(text, after_name, a);
+    text[space] = 32;
+    let end = write_decimal(text, space + 1, b);
+    text[end] = 10;
+    end + 1
 }
 
 // A line for each row, whose times begin at `first`: with a name of 5 letters and a row of two digits, of at
