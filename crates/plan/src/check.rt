@@ -124,6 +124,7 @@ fn wrong_task(board: Board, vcpus: &[u32], tasks: &[u32], rows: u32) -> u32
 
 // 19: the lowest task row that names a lower VCPU than the row before.
 fn wrong_order(tasks: &[u32], rows: u32) -> u32
+    requires { ⌜ rows ≡ taskRows (now tasks) ⌝ }
     ensures { λ r. ⌜ r ≡ lowest (badOrder (now (tasks .entry))) rows ⌝ }
 {
     let mut j: u32 = 0;

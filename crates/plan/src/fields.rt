@@ -20,7 +20,6 @@ use rows::VCPU_CORE;
 use rows::VCPU_DOMAIN;
 use rows::VCPU_PERIOD;
 use rows::VCPU_WORDS;
-use rows::task_word;
 use rows::vcpu_word;
 
 const LAST_CORE: u32 = 3;
@@ -109,9 +108,10 @@ pub(crate) fn bad_task(board: Board, vcpus: &[u32], tasks: &[u32], row: u32) -> 
 
 // 19: a lower VCPU than the row before.
 pub(crate) fn bad_order(tasks: &[u32], row: u32) -> bool
+    requires { ⌜ row < taskRows (now tasks) ⌝ }
     ensures { λ r. ⌜ r ≡ badOrder (now (tasks .entry)) row ⌝ }
 {
-    0 < row && task_word(tasks, row, TASK_VCPU) < task_word(tasks, row - 1, TASK_VCPU)
+    0 < row && known_word(tasks, row, TASK_VCPU) < known_word(tasks, row - 1, TASK_VCPU)
 }
 
 // 20: a colour in common with a row of another VCPU. Where no lower row has one, the rows after it are
