@@ -1,5 +1,4 @@
--- What `admit` answers to an input: document 01, refusal 1 before all others, then admission with the grants as active sets, and the
--- text that it prints. How many words a plan takes is said by itself, so that several plans in a row can be read.
+-- What `admit` answers to an input: document 01, refusal 1 before all others, then admission, the grants as active sets; and what it prints.
 use Prim.Native.Nat.{ℕ, _*_}
 use mathlib.Core.Bool.{Bool, not, _||_}
 use mathlib.Core.List.{List, [], _∷_}

@@ -1,5 +1,4 @@
--- The part of a VCPU: document 01, "the part runs from the VCPU's first row up to the next row of another VCPU; words short of a row
--- belong to none". It is defined for any list and any number.
+-- The part of a VCPU: document 01, from the VCPU's first row up to the next row of another, for any list; words short of a row belong to none.
 use Prim.Native.Nat.{ℕ, _-_, _*_}
 use mathlib.Core.Bool.{Bool, not}
 use mathlib.Core.List.{List}
