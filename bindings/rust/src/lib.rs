@@ -34,7 +34,7 @@ pub use board::Board;
 pub use calls::{
     admit, admit_plan, bleach, cache_colours, colours, fault, layout, look, part, recolour, release,
 };
-pub use refusal::{Refusal, RowNames};
+pub use refusal::{row_names, Refusal, RowNames};
 pub use rows::{Task, Vcpu};
 pub use text::Verdict;
 

@@ -19,34 +19,31 @@ use core::fmt;
 pub struct Refusal {
     /// 1 to 22.
     pub number: u32,
-    /// What it counts is told by [`Refusal::row_names`].
+    /// What it counts is told by [`row_names`].
     pub row: u32,
 }
 
-/// What the row of a refusal names.
+/// What the row of a refusal counts.
 #[derive(Clone, Copy, Debug, PartialEq, Eq, Hash)]
 pub enum RowNames {
-    /// A domain of the board.
+    /// Domains of the board.
     Domain,
-    /// A VCPU row of the plan.
-    Vcpu,
-    /// A task row of the plan.
-    Task,
+    /// Rows of the plan: of VCPUs for 17 and 21, else of tasks.
+    PlanRow,
     /// Nothing; the row is 0.
     Nothing,
 }
 
-impl Refusal {
-    /// What the row names.
-    pub fn row_names(&self) -> RowNames {
-        match self.number {
-            5..=7 => RowNames::Domain,
-            17 | 21 => RowNames::Vcpu,
-            18..=20 | 22 => RowNames::Task,
-            _ => RowNames::Nothing,
-        }
+/// What the row of a refusal of this number counts.
+pub fn row_names(number: u32) -> RowNames {
+    match number {
+        5..=7 => RowNames::Domain,
+        17..=22 => RowNames::PlanRow,
+        _ => RowNames::Nothing,
     }
+}
 
+impl Refusal {
     /// What the number means.
     pub fn meaning(&self) -> &'static str {
         match self.number {
@@ -84,10 +81,12 @@ impl Refusal {
 impl fmt::Display for Refusal {
     fn fmt(&self, f: &mut fmt::Formatter) -> fmt::Result {
         write!(f, "refused {}", self.number)?;
-        match self.row_names() {
+        match row_names(self.number) {
             RowNames::Domain => write!(f, ", domain {}", self.row)?,
-            RowNames::Vcpu => write!(f, ", VCPU row {}", self.row)?,
-            RowNames::Task => write!(f, ", task row {}", self.row)?,
+            RowNames::PlanRow if matches!(self.number, 17 | 21) => {
+                write!(f, ", VCPU row {}", self.row)?
+            }
+            RowNames::PlanRow => write!(f, ", task row {}", self.row)?,
             RowNames::Nothing => {}
         }
         write!(f, ": {}", self.meaning())

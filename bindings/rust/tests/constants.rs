@@ -197,7 +197,8 @@ fn fields_of_rows() {
     assert_eq!(one, Ok(()));
 }
 
-/// Number, meaning and what the row names, from the table of docs/REFUSALS.md.
+/// Number, meaning and what the row names, from the table of docs/REFUSALS.md. A row of the plan is shown as
+/// what it is there, one of VCPUs or of tasks.
 fn documented() -> Vec<(u32, String, RowNames)> {
     let page = include_str!("../../../docs/REFUSALS.md");
     let rows = page.lines().filter_map(|line| {
@@ -206,8 +207,11 @@ fn documented() -> Vec<(u32, String, RowNames)> {
         let row_names = match *cells.get(3)? {
             "0" => RowNames::Nothing,
             names if names.contains("domain") => RowNames::Domain,
-            names if names.contains("VCPU row") => RowNames::Vcpu,
-            names if names.contains("task") => RowNames::Task,
+            names if names.contains("VCPU row") || names.contains("task") => {
+                let shown = Refusal { number, row: 0 }.to_string();
+                assert_eq!(names.contains("task"), shown.contains(", task row 0"));
+                RowNames::PlanRow
+            }
             names => panic!("a row names {names}?"),
         };
         Some((number, cells[2].to_string(), row_names))
@@ -287,8 +291,7 @@ fn rows_name_what_the_page_says() {
     for number in (0..=30).chain([u32::MAX]) {
         let listed = page.iter().find(|(listed, ..)| *listed == number);
         let expected = listed.map_or(RowNames::Nothing, |(.., names)| *names);
-        let names = Refusal { number, row: 1 }.row_names();
-        assert_eq!(names, expected, "{number}");
+        assert_eq!(row_names(number), expected, "{number}");
     }
 }
 
@@ -297,10 +300,10 @@ fn rows_name_what_the_page_says() {
 fn rows_are_shown() {
     for number in 0..=30 {
         let refusal = Refusal { number, row: 77 };
-        let shown = match refusal.row_names() {
+        let shown = match row_names(number) {
             RowNames::Domain => ", domain 77: ",
-            RowNames::Vcpu => ", VCPU row 77: ",
-            RowNames::Task => ", task row 77: ",
+            RowNames::PlanRow if matches!(number, 17 | 21) => ", VCPU row 77: ",
+            RowNames::PlanRow => ", task row 77: ",
             RowNames::Nothing => ": ",
         };
         let expected = format!("refused {number}{shown}{}", refusal.meaning());
