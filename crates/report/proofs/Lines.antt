@@ -47,13 +47,27 @@ line-written name l a b at p q e hp hq he =
     ∙ sets-append name (decimal a ++ (32 ∷ (decimal b ++ (10 ∷ [])))) l at p hp
 
 module _ (name times : List ℕ) where
-  pub lines-next : (row : ℕ) → row < length times → linesFrom name row (drop row times) ≡ line name row (getD times row 0) ++ linesFrom name (row + 1) (drop (row + 1) times)
+  lines-next : (row : ℕ) → row < length times → linesFrom name row (drop row times) ≡ line name row (getD times row 0) ++ linesFrom name (row + 1) (drop (row + 1) times)
   unfolding linesFrom
   lines-next row h = rw (drop-cons times row 0 h, add-one row)
 
   pub lines-end : (row : ℕ) → length times ≤ row → linesFrom name row (drop row times) ≡ []
   unfolding linesFrom
   lines-end row h = rw (drop-of-length-le times h)
+
+  -- what is left after one line more
+  pub line-more : (text next : List ℕ) (row time end after : ℕ) → row < length times → time ≡ getD times row 0
+      → after ≡ end + length (line name row time) → next ≡ sets text end (line name row time)
+      → (end + length (linesFrom name row (drop row times)) ≡ after + length (linesFrom name (row + 1) (drop (row + 1) times)))
+      × (sets text end (linesFrom name row (drop row times)) ≡ sets next after (linesFrom name (row + 1) (drop (row + 1) times)))
+  line-more text next row time end after h t a n =
+      let this : List ℕ = line name row time in
+      let rest : List ℕ = linesFrom name (row + 1) (drop (row + 1) times) in
+      let more : linesFrom name row (drop row times) ≡ this ++ rest = lines-next row h ∙ ap (λ (k : ℕ). line name row k ++ rest) (sym t) in
+      let long : length (linesFrom name row (drop row times)) ≡ length this + length rest = ap (λ (l : List ℕ). length l) more ∙ length-append this rest in (
+        omega (arith, long, a),
+        ap (λ (l : List ℕ). sets text end l) more ∙ sym (sets-append this rest text end after a) ∙ ap (λ (l : List ℕ). sets l after rest) (sym n),
+      )
 
 -- the lines of all rows and the last line, one after another
 pub admitted-written : (vcpus tasks text first second : List ℕ) (a b : ℕ)

@@ -48,16 +48,24 @@ fn write_line(text: &mut [u8], at: usize, name: &[u8], a: u32, b: u32) -> usize
     end + 1
 }
 
-// A line for each row: with a name of 5 letters and a row of two digits, of at most 19 bytes.
-fn write_lines(text: &mut [u8], at: usize, name: &[u8], times: &[u32]) -> usize
-    requires { ⌜ (length (now name) ≤ 5) × (length (now times) ≤ 48) × (at + 19 * length (now times) + 8 ≤ length (now text)) ⌝ }
-    ensures { λ r. ⌜ (r ≡ at + length (linesFrom (now (name .entry)) 0 (now (times .entry)))) × (r ≤ at + 19 * length (now (times .entry))) ⌝ }
-    ensures { λ r. ⌜ now (text .exit) ≡ sets (now (text .entry)) at (linesFrom (now (name .entry)) 0 (now (times .entry))) ⌝ }
+// A line for each row, whose times begin at `first`: with a name of 5 letters and a row of two digits, of at
+// most 19 bytes.
+fn write_lines(
+    text: &mut [u8],
+    at: usize,
+    name: &[u8],
+    times: &[u32],
+    first: usize,
+    rows: usize,
+) -> usize
+    requires { ⌜ (length (now name) ≤ 5) × (rows ≤ 48) × (first + rows ≤ length (now times)) × (at + 19 * rows + 8 ≤ length (now text)) ⌝ }
+    ensures { λ r. ⌜ (r ≡ at + length (linesFrom (now (name .entry)) 0 (take rows (drop first (now (times .entry)))))) × (r ≤ at + 19 * rows) ⌝ }
+    ensures { λ r. ⌜ now (text .exit) ≡ sets (now (text .entry)) at (linesFrom (now (name .entry)) 0 (take rows (drop first (now (times .entry))))) ⌝ }
 {
     let mut end = at;
     let mut row: u32 = 0;
-    while (row as usize) < times.len() {
-        end = write_line(text, end, name, row, times[row as usize]);
+    while (row as usize) < rows {
+        end = write_line(text, end, name, row, times[first + row as usize]);
         row += 1;
     }
     end
@@ -69,9 +77,8 @@ pub(crate) fn write_admitted(text: &mut [u8], times: &[u32], vcpus: usize, tasks
     ensures { λ r. ⌜ (r ≡ length (admittedLines (take vcpus (now (times .entry))) (take tasks (drop vcpus (now (times .entry)))))) × (r ≤ 1024) ⌝ }
     ensures { λ r. ⌜ now (text .exit) ≡ over (admittedLines (take vcpus (now (times .entry))) (take tasks (drop vcpus (now (times .entry))))) (now (text .entry)) ⌝ }
 {
-    let rows = vcpus + tasks;
-    let after_vcpus = write_lines(text, 0, b"vcpu ", &times[..vcpus]);
-    let after_tasks = write_lines(text, after_vcpus, b"task ", &times[vcpus..rows]);
+    let after_vcpus = write_lines(text, 0, b"vcpu ", times, 0, vcpus);
+    let after_tasks = write_lines(text, after_vcpus, b"task ", times, vcpus, tasks);
     write_bytes(text, after_tasks, b"admitted\n") as u32
 }
 
