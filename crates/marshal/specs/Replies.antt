@@ -15,7 +15,6 @@ module _ {A : Type 0} where
   rowOf (Answers a) = 0
   rowOf (Refuses n r) = r
 
-  -- a number of the answer
   abbrev pub valueOf : (A → ℕ) → Reply A → ℕ
   valueOf f (Answers a) = f a
   valueOf f (Refuses n r) = 0
@@ -27,11 +26,12 @@ module _ {A : Type 0} where
     pub value : told .value ≡ valueOf f reply
     pub flag : told .flag ≡ valueOf g reply
 
-  abbrev pub nothing : A → ℕ
-  nothing a = 0
-
+-- an answer that is a number, and one that has none to tell
 abbrev pub itself : ℕ → ℕ
 itself n = n
+
+abbrev pub nothing : {A : Type 0} → A → ℕ
+nothing a = 0
 
 -- the frame, the set or the count of moves that a frame call answers; 0 for unmapped
 abbrev pub numberIn : Answer → ℕ

@@ -37,4 +37,5 @@ returns-3 c = tells-refusal numberIn flagIn (ap paperFaulted (c .before .before 
 pub faulted-spec : {M : Type 1} → statement M
 faulted-spec =
     tie.close
-    (tie.spec enum-known-answer answered-requires enum-known-answer-2 answered-requires-2 enum-known-answer-3 refused-requires returns returns-2 returns-3)
+    (tie.spec enum-known-answer answered-requires enum-known-answer-2 answered-requires-2 enum-known-answer-3 refused-requires returns
+    returns-2 returns-3)

@@ -24,7 +24,9 @@ eight-requires-2 c κs = search needs
 returns : tie.Need-returns
 returns c =
     let words : List ℕ = c .before .before .before .before .before .args .words .now in
-    λ j. record { colours = getD words 0 0; frames = getD words 1 0; domains = getD words 2 0; grants = c .before .eight .ensures j; active = c .eight2 .ensures j }
+    let grants = c .before .eight .ensures in
+    let active = c .eight2 .ensures in
+    λ j. record { colours = getD words 0 0; frames = getD words 1 0; domains = getD words 2 0; grants = grants j; active = active j }
 
 pub board-of-spec : {M : Type 1} → statement M
 board-of-spec =

@@ -47,7 +47,8 @@ loop-again c =
     let h = c .before .before .loop in
     let all : List ℕ = wordsFrom (a .at) 8 (a .words .now) in
     let l : h .i < 8 = omega arith in
-    (omega arith, ap₂ (λ (t : List ℕ) (w : ℕ). set t (h .i) w) (h .inv .1) (sym (word-at (a .words .now) 8 (a .at) (h .i) l)) ∙ write-next all (replicate 8 0) (h .i) l l)
+    let word = sym (word-at (a .words .now) 8 (a .at) (h .i) l) in
+    (omega arith, ap₂ (λ (t : List ℕ) (w : ℕ). set t (h .i) w) (h .inv .1) word ∙ write-next all (replicate 8 0) (h .i) l l)
 
 returns : tie.Need-returns Inv-loop μ-loop
 returns c =

@@ -16,7 +16,8 @@ use Rattle.marshal.proofs.words.write_recoloured.Statement.{statement}
 use Rattle.marshal.proofs.words.write_recoloured.Tie as tie
 
 -- where the answer is a count, one word is new
-told : (ws : List ℕ) (m : Moved) (d c : ℕ) {n : ℕ} → 19 ≡ length ws → m ≡ Count n → set ws (11 + d) c ≡ wordsAfter (paperMoved m) (withActive (boardOf ws) d c) ws
+told : (ws : List ℕ) (m : Moved) (d c : ℕ) {n : ℕ} → 19 ≡ length ws → m ≡ Count n
+    → set ws (11 + d) c ≡ wordsAfter (paperMoved m) (withActive (boardOf ws) d c) ws
 told ws m d c long e = sym (one-word ws d c (sym long)) ∙ sym (ap (λ (m : Moved). wordsAfter (paperMoved m) (withActive (boardOf ws) d c) ws) e)
 
 enum-told : tie.Need-enum-told
@@ -44,7 +45,8 @@ returns-2 : tie.Need-returns-2
 returns-2 c =
     let a = c .before .before .before .before .args in
     let long : 19 ≡ length (a .words .now) = search needs in
-    sym (set-out (a .words .now) (11 + a .domain) (a .set) (omega arith)) ∙ told (a .words .now) (a .answer) (a .domain) (a .set) long (c .before .enum-told .given .1)
+    sym (set-out (a .words .now) (11 + a .domain) (a .set) (omega arith))
+    ∙ told (a .words .now) (a .answer) (a .domain) (a .set) long (c .before .enum-told .given .1)
 
 returns-3 : tie.Need-returns-3
 returns-3 c = search needs
