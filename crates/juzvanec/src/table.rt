@@ -5,11 +5,11 @@ ghost use Rattle.calls.specs.Calls.{look as lookCall, fault as faultCall, relea
 ghost use Rattle.marshal.specs.Words.{wordsLeft, lent};
 ghost use Rattle.marshal.specs.Replies.{numberOf, rowOf, valueOf, numberIn, flagIn};
 use marshal::active;
+use marshal::board_of;
 use marshal::faulted;
 use marshal::looked;
 use marshal::moved;
 use marshal::released;
-use marshal::board_of;
 use marshal::write_recoloured;
 
 // The page's frame: `mapped` is 1 with the frame, or 0 with frame 0.

@@ -50,7 +50,14 @@ fn write_line(text: &mut [u8], at: usize, name: &[u8], a: u32, b: u32) -> usize
 
 // A line for each row, whose times begin at `first`: with a name of 5 letters and a row of two digits, of at
 // most 19 bytes.
-fn write_lines(text: &mut [u8], at: usize, name: &[u8], times: &[u32], first: usize, rows: usize) -> usize
+fn write_lines(
+    text: &mut [u8],
+    at: usize,
+    name: &[u8],
+    times: &[u32],
+    first: usize,
+    rows: usize,
+) -> usize
     requires { ⌜ (length (now name) ≤ 5) × (rows ≤ 48) × (first + rows ≤ length (now times)) × (at + 19 * rows + 8 ≤ length (now text)) ⌝ }
     ensures { λ r. ⌜ (r ≡ at + length (linesFrom (now (name .entry)) 0 (take rows (drop first (now (times .entry)))))) × (r ≤ at + 19 * rows) ⌝ }
     ensures { λ r. ⌜ now (text .exit) ≡ sets (now (text .entry)) at (linesFrom (now (name .entry)) 0 (take rows (drop first (now (times .entry))))) ⌝ }
