@@ -108,26 +108,16 @@ pub(crate) fn judge(input: &[u8], rows: Rows, times: &mut [u32]) -> Admission
     ensures { λ r. ⌜ paperAdmission r ≡ admissionReply (boardOf (now (input .entry))) (reloadOf (now (input .entry))) (vcpusOf (now (input .entry))) (tasksOf (now (input .entry))) (length (now (times .entry))) ⌝ }
     ensures { λ r. ⌜ now (times .exit) ≡ timesAfter (boardOf (now (input .entry))) (reloadOf (now (input .entry))) (vcpusOf (now (input .entry))) (tasksOf (now (input .entry))) (now (times .entry)) ⌝ }
 {
-    let words = 4 * rows.vcpus;
-    let mut space = vcpu_space();
-    let vcpus = &mut space[..words];
-    read_words(input, 5 + rows.domains, vcpus);
-    judge_tasks(input, rows, vcpus, times)
-}
-
-// The same with the VCPUs that were read.
-fn judge_tasks(input: &[u8], rows: Rows, vcpus: &[u32], times: &mut [u32]) -> Admission
-    requires { ⌜ (rows .domains ≡ domainCount (now input)) × (rows .domains ≤ 8) ⌝ }
-    requires { ⌜ (rows .vcpus ≡ vcpuCount (now input)) × (rows .vcpus ≤ 16) × (now vcpus ≡ vcpusOf (now input)) ⌝ }
-    requires { ⌜ (rows .tasks ≡ taskCount (now input)) × (rows .tasks ≤ 32) ⌝ }
-    ensures { λ r. ⌜ paperAdmission r ≡ admissionReply (boardOf (now (input .entry))) (reloadOf (now (input .entry))) (vcpusOf (now (input .entry))) (tasksOf (now (input .entry))) (length (now (times .entry))) ⌝ }
-    ensures { λ r. ⌜ now (times .exit) ≡ timesAfter (boardOf (now (input .entry))) (reloadOf (now (input .entry))) (vcpusOf (now (input .entry))) (tasksOf (now (input .entry))) (now (times .entry)) ⌝ }
-{
     let domains = rows.domains;
-    let words = 20 * rows.tasks;
-    let mut space = task_space();
-    let tasks = &mut space[..words];
-    read_words(input, 6 + domains + 4 * rows.vcpus, tasks);
+    let board = read_board(input, domains);
     let reload = word(input, 3 + domains);
-    admit_plan(read_board(input, domains), reload, vcpus, tasks, times)
+    let vcpu_words = 4 * rows.vcpus;
+    let mut first = vcpu_space();
+    let vcpus = &mut first[..vcpu_words];
+    read_words(input, 5 + domains, vcpus);
+    let task_words = 20 * rows.tasks;
+    let mut second = task_space();
+    let tasks = &mut second[..task_words];
+    read_words(input, 6 + domains + vcpu_words, tasks);
+    admit_plan(board, reload, vcpus, tasks, times)
 }
