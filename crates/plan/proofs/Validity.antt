@@ -3,7 +3,7 @@
 use Prim.Native.Nat.{ℕ, _+_, _-_, _/_, _%_, _^_, _<_, _≤_}
 use native.Mathlib.Nat.{pos-of-ne-zero, lt-of-le-of-lt}
 use native.Mathlib.Omega.{arith}
-use mathlib.Core.Bool.{true, false, not, _||_}
+use mathlib.Core.Bool.{false, not, _||_}
 use mathlib.Core.List.{List, _++_}
 use mathlib.Core.Path.{_≡_}
 use lib.Bits.{bitAnd, and-le-r}
@@ -21,7 +21,7 @@ use Rattle.colours.proofs.Bits.{ones-pos}
 use Rattle.colours.proofs.Ranges.{count-range, colour-set}
 use Rattle.board.specs.declared.Board.{Board}
 use Rattle.board.specs.Tests.{grant, boardTests, boardReply}
-use Rattle.board.proofs.Passed.{Passed, split}
+use Rattle.board.proofs.Passed.{split}
 use Rattle.rows.specs.Words.{core, domain, vcpuPeriod, budget, vcpuOf, taskPeriod, deadline, colourSet, costWith, cost, vcpuRows, taskRows}
 use Rattle.rows.specs.Valid.{TaskRow, VcpuRow, Ascending, Plan}
 use Rattle.plan.specs.Tests.{zeroOrAbove, badTimes, badVcpuWords, badTaskWords, badVcpu, badCost, badFields, badTask, badOrder, sharesColour, rowTests, planTests, planReply}

@@ -1,5 +1,4 @@
 -- `admission::admit_rows` meets its contract: each return has the times that led there.
-use native.Mathlib.Omega.{arith}
 use mathlib.Core.Bool.{false}
 use mathlib.Core.Path.{_≡_, sym, _∙_}
 use lib.Dec.{ltb}

@@ -3,7 +3,6 @@ use Prim.Native.Nat.{_≤_}
 use native.Mathlib.Omega.{arith}
 use lib.Count.{ones}
 use Rattle.rows.specs.Words.{cost}
-use borrow.Author.Needs.{needs}
 use Rattle.admission.proofs.read.cost_at.Statement.{statement}
 use Rattle.admission.proofs.read.cost_at.Tie as tie
 

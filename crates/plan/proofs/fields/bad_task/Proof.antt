@@ -1,5 +1,4 @@
 -- `plan::fields::bad_task` meets its contract, test by test.
-use mathlib.Core.Path.{sym, _∙_}
 use borrow.Author.Needs.{needs}
 use Rattle.plan.proofs.fields.bad_task.Statement.{statement}
 use Rattle.plan.proofs.fields.bad_task.Tie as tie
