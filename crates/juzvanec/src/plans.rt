@@ -16,7 +16,7 @@ pub extern "C" fn juzvanec_part(tasks: &[u32], vcpu: u32, start: &mut usize, len
     ensures { λ _. ⌜ now (length .exit) ≡ lengthOf (partOf (now (tasks .entry)) vcpu) ⌝ }
 {
     let part = rows::part(tasks, vcpu);
-    *start = 20 * rows::part_start(tasks, vcpu);
+    *start = rows::TASK_WORDS * rows::part_start(tasks, vcpu);
     *length = part.len();
 }
 
