@@ -8,6 +8,8 @@ ghost use Rattle.report.specs.Input.{word as wordOf, words as wordsOf, d
 use admission::Admission;
 use admission::admit_plan;
 use board::Board;
+use rows::TASK_WORDS;
+use rows::VCPU_WORDS;
 
 // What the counts of an input say, whether or not it is as long as they say.
 pub(crate) struct Rows {
@@ -46,7 +48,7 @@ pub(crate) fn count_rows(input: &[u8]) -> Rows
 {
     let domains = word(input, 2) as usize;
     let vcpus = word(input, 4 + domains) as usize;
-    let tasks = word(input, 5 + domains + 4 * vcpus) as usize;
+    let tasks = word(input, 5 + domains + VCPU_WORDS * vcpus) as usize;
     Rows {
         domains,
         vcpus,
@@ -111,11 +113,11 @@ pub(crate) fn judge(input: &[u8], rows: Rows, times: &mut [u32]) -> Admission
     let domains = rows.domains;
     let board = read_board(input, domains);
     let reload = word(input, 3 + domains);
-    let vcpu_words = 4 * rows.vcpus;
+    let vcpu_words = VCPU_WORDS * rows.vcpus;
     let mut first = vcpu_space();
     let vcpus = &mut first[..vcpu_words];
     read_words(input, 5 + domains, vcpus);
-    let task_words = 20 * rows.tasks;
+    let task_words = TASK_WORDS * rows.tasks;
     let mut second = task_space();
     let tasks = &mut second[..task_words];
     read_words(input, 6 + domains + vcpu_words, tasks);

@@ -20,6 +20,8 @@ use crate::text::write_admitted;
 use crate::text::write_refused;
 use admission::Admission;
 use refusal::Refusal;
+use rows::TASK_WORDS;
+use rows::VCPU_WORDS;
 
 // The longest plan has 718 words. One byte more tells an input that is too long, whatever follows it.
 pub const INPUT_BYTES: usize = 2873;
@@ -65,7 +67,7 @@ pub fn plan_extent(input: &[u8]) -> Extent
     if over_limit(domains, vcpus, tasks) {
         return Extent::Refused(Refusal { number: 1, row: 0 });
     }
-    let words = 6 + domains + 4 * vcpus + 20 * tasks;
+    let words = 6 + domains + VCPU_WORDS * vcpus + TASK_WORDS * tasks;
     if input.len() < 4 * words {
         return Extent::Refused(Refusal { number: 1, row: 0 });
     }
