@@ -28,6 +28,16 @@ told c = c .before .before .before .before .before
 abbrev begun : tie.After-word-or-free → tie.Start
 begun c = entry (told c)
 
+-- the first frame was found and not past the table; it has not the word; the word was looked for after it
+abbrev there : tie.Else2 → tie.Else1
+there c = c .before .before
+
+abbrev again : tie.After-next-word → tie.Else2
+again c = c .before .before
+
+abbrev searched : tie.After-next-word → tie.After-word-or-free
+searched c = there (again c) .before
+
 abbrev table : tie.Start → List ℕ
 table s = s .args .table .now
 
@@ -72,18 +82,18 @@ here c =
     let w = c .before .before .before in
     sym (ap (word (table (begun w))) (first-is w)) ∙ c .if2 .taken ∙ word-is w
 
-other : (c : tie.Else2) → Mapped-first (begun (c .before .before .before)) → ⊥
+other : (c : tie.Else2) → Mapped-first (begun (there c .before)) → ⊥
 other c e =
-    let w = c .before .before .before in
+    let w = there c .before in
     c .if2 .left (ap (word (table (begun w))) (first-is w) ∙ e ∙ sym (word-is w))
 
 -- the frame with the word after it
 abbrev later : tie.Start → ℕ
 later s = lowestFrom (hasWord (table s) (wanted s)) (first s + 1) (length (table s))
 
-later-is : (c : tie.After-next-word) → c .next-word .result ≡ later (begun (c .before .before .before .before .before))
+later-is : (c : tie.After-next-word) → c .next-word .result ≡ later (begun (searched c))
 later-is c =
-    let w = c .before .before .before .before .before in
+    let w = searched c in
     let t : List ℕ = table (begun w) in
     c .next-word .ensures ∙ ap₂ (λ (x f : ℕ). lowestFrom (hasWord t x) (f + 1) (length t)) (word-is w) (first-is w)
 
@@ -143,43 +153,43 @@ returns-3 c =
     (ap (λ (f : ℕ). Answers (Old f)) (first-is w) ∙ m .0, m .1)
 
 add-next-word : tie.Need-add-next-word
-add-next-word c = omega (arith, below (c .before .before .before))
+add-next-word c = omega (arith, below (there (c .before)))
 
 next-word-requires : tie.Need-next-word-requires
-next-word-requires c κs = omega (arith, below (c .before .before .before))
+next-word-requires c κs = omega (arith, below (there (c .before)))
 
 cast-t21 : tie.Need-cast-t21
-cast-t21 c = omega (arith, page-accepted _ _ _ _ (passes-10 (told (c .before .before .before .before .before .before))))
+cast-t21 c = omega (arith, page-accepted _ _ _ _ (passes-10 (told (searched (c .before)))))
 
 same-length-3 : tie.Need-same-length-3
 same-length-3 c = search needs
 
 returns-4 : tie.Need-returns-4
 returns-4 c =
-    let w = c .before .before .before .before .before .before in
+    let w = searched (c .before) in
     let is = later-is (c .before) in
     let more : later (begun w) < length (table (begun w)) = omega (arith, is) in
-    let m = told-by _ _ (fault-later _ _ _ _ (passes-10 (told w)) (first-below (c .before .before .before .before .before)) (other (c .before .before .before)) more) in
+    let m = told-by _ _ (fault-later _ _ _ _ (passes-10 (told w)) (first-below (there (again (c .before)))) (other (again (c .before))) more) in
     (ap (λ (f : ℕ). Answers (Old f)) is ∙ m .0, m .1)
 
 mul-table : tie.Need-mul-table
-mul-table c = omega (arith, below (c .before .before .before .before .before))
+mul-table c = omega (arith, below (there (again (c .before))))
 
 slice-write-table : tie.Need-slice-write-table
-slice-write-table c = below (c .before .before .before .before .before)
+slice-write-table c = below (there (again (c .before)))
 
 cast-t23 : tie.Need-cast-t23
-cast-t23 c = omega (arith, below (c .before .before .before .before .before), page-accepted _ _ _ _ (passes-10 (told (c .before .before .before .before .before .before))))
+cast-t23 c = omega (arith, below (there (again (c .before))), page-accepted _ _ _ _ (passes-10 (told (searched (c .before)))))
 
 same-length-4 : tie.Need-same-length-4
 same-length-4 c = search needs
 
 returns-5 : tie.Need-returns-5
 returns-5 c =
-    let w = c .before .before .before .before .before .before in
+    let w = searched (c .before) in
     let t : List ℕ = table (begun w) in
     let none : length t ≤ later (begun w) = omega (arith, later-is (c .before)) in
-    let m = told-by _ _ (fault-new _ _ _ _ (passes-10 (told w)) (first-below (c .before .before .before .before .before)) (other (c .before .before .before)) none) in
+    let m = told-by _ _ (fault-new _ _ _ _ (passes-10 (told w)) (first-below (there (again (c .before)))) (other (again (c .before))) none) in
     (ap (λ (f : ℕ). Answers (New f)) (first-is w) ∙ m .0, ap₂ (λ (f x : ℕ). set t f x) (first-is w) (word-is w) ∙ m .1)
 
 pub fault-spec : {M : Type 1} → statement M
