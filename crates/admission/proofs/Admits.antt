@@ -9,7 +9,7 @@ use Rattle.refusal.specs.Reply.{Answers, Refuses, each, unless}
 use Rattle.refusal.proofs.Order.{unless-refused, unless-passed, unless-each}
 use Rattle.board.specs.declared.Board.{Board}
 use Rattle.board.specs.Tests.{boardTests, boardReply}
-use Rattle.rows.specs.Words.{vcpuRows, taskRows}
+use Rattle.rows.specs.RowWords.{vcpuRows, taskRows}
 use Rattle.plan.specs.Tests.{planTests, planReply}
 use Rattle.times.specs.Times.{taskTime, vcpuTime}
 use Rattle.admission.specs.Admission.{isLate, timeTests, admissionReply}

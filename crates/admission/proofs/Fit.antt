@@ -4,7 +4,7 @@ use native.Mathlib.Omega.{arith}
 use mathlib.Core.List.{List}
 use mathlib.Core.Path.{_≡_, refl}
 use Rattle.supply.specs.Supply.{Budget}
-use Rattle.rows.specs.Words.{vcpuPeriod, budget, vcpuOf, taskRows}
+use Rattle.rows.specs.RowWords.{vcpuPeriod, budget, vcpuOf, taskRows}
 use Rattle.rows.specs.Part.{partStart, partOf}
 use Rattle.rows.specs.Valid.{Tasks, Plan}
 use Rattle.rows.proofs.Parts.{part-rows, part-tasks, row-in-part}

@@ -8,7 +8,7 @@ use lib.ListN.{length, take, length-append}
 use Rattle.lists.proofs.Found.{sought-le}
 use Rattle.lists.proofs.Written.{length-table}
 use Rattle.refusal.specs.Reply.{Reply, Refuses}
-use Rattle.rows.specs.Words.{vcpuRows, taskRows}
+use Rattle.rows.specs.RowWords.{vcpuRows, taskRows}
 use Rattle.times.specs.First.{Time}
 use Rattle.times.specs.Times.{taskTime, vcpuTime}
 use Rattle.admission.specs.Admission.{isLate, microseconds, vcpuTimes, taskTimes, listAfter}

@@ -8,7 +8,7 @@ use Rattle.lists.specs.Range.{upto}
 use Rattle.refusal.specs.Reply.{Reply, Answers, Refuses, Test, each, unless}
 use Rattle.board.specs.declared.Board.{Board}
 use Rattle.board.specs.Tests.{boardTests}
-use Rattle.rows.specs.Words.{vcpuRows, taskRows}
+use Rattle.rows.specs.RowWords.{vcpuRows, taskRows}
 use Rattle.plan.specs.Tests.{planTests}
 use Rattle.times.specs.First.{Time, At, Late}
 use Rattle.times.specs.Times.{taskTime, vcpuTime}

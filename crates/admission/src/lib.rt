@@ -10,7 +10,7 @@ ghost use mathlib.Core.List.{_++_};
 ghost use Prim.Native.Nat.{_+_, _≤_};
 ghost use lib.ListN.{length};
 ghost use Rattle.refusal.specs.Reply.{unless};
-ghost use Rattle.rows.specs.Words.{vcpuRows, taskRows};
+ghost use Rattle.rows.specs.RowWords.{vcpuRows, taskRows};
 ghost use Rattle.rows.specs.Valid.{Plan};
 ghost use Rattle.admission.specs.Admission.{timeTests, admissionReply, vcpuTimes, taskTimes, listAfter, timesAfter};
 ghost use Rattle.admission.specs.Paper.{paperAdmission};

@@ -3,7 +3,7 @@
 ghost use mathlib.Core.Path.{_≡_};
 ghost use Prim.Native.Nat.{_*_, _≤_, _<_};
 ghost use Rattle.times.specs.Times.{arrivals as arrivalsOf, charge as chargeOf, taskNeed, vcpuNeed};
-ghost use Rattle.rows.specs.Words.{vcpuPeriod, budget, vcpuRows, taskRows};
+ghost use Rattle.rows.specs.RowWords.{vcpuPeriod, budget, vcpuRows, taskRows};
 ghost use Rattle.rows.specs.Valid.{Tasks, Vcpus};
 use crate::read::cost_at;
 use crate::read::task_at;

@@ -3,7 +3,7 @@
 ghost use mathlib.Core.Path.{_≡_};
 ghost use Prim.Native.Nat.{_+_, _*_, _<_};
 ghost use lib.ListN.{length};
-ghost use Rattle.rows.specs.Words.{vcpuWord, taskWord, taskRows, cost as costOf};
+ghost use Rattle.rows.specs.RowWords.{vcpuWord, taskWord, taskRows, cost as costOf};
 ghost use Rattle.rows.specs.Valid.{Tasks};
 use rows::TASK_SET;
 use rows::TASK_WORDS;

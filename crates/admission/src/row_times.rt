@@ -4,7 +4,7 @@ ghost use mathlib.Core.Path.{_≡_};
 ghost use mathlib.Core.List.{[], _++_};
 ghost use Prim.Native.Nat.{_≤_, _<_};
 ghost use lib.ListN.{length, take, drop};
-ghost use Rattle.rows.specs.Words.{vcpuRows, taskRows, vcpuOf};
+ghost use Rattle.rows.specs.RowWords.{vcpuRows, taskRows, vcpuOf};
 ghost use Rattle.rows.specs.Part.{partStart};
 ghost use Rattle.rows.specs.Valid.{Vcpus, Plan};
 ghost use Rattle.times.specs.Times.{vcpuTime, taskTime as taskTimeOf};

@@ -4,7 +4,7 @@ ghost use mathlib.Core.Path.{_≡_};
 ghost use Prim.Native.Nat.{_≤_, _<_};
 ghost use Rattle.supply.specs.Supply.{firstSupply, Budget};
 ghost use Rattle.times.specs.Times.{timeInPart, vcpuTime as vcpuTimeOf};
-ghost use Rattle.rows.specs.Words.{vcpuRows, taskRows};
+ghost use Rattle.rows.specs.RowWords.{vcpuRows, taskRows};
 ghost use Rattle.rows.specs.Valid.{Tasks, Vcpus};
 ghost use Rattle.admission.specs.Paper.{paperFound};
 use crate::need::task_need;

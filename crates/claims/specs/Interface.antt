@@ -7,7 +7,7 @@ use lib.ListN.{length, set, take}
 use Rattle.board.specs.declared.Board.{Board}
 use Rattle.calls.specs.Calls.{withActive, recolour}
 use Rattle.report.specs.Report.{textOf}
-use Rattle.marshal.specs.Words.{boardOf, boardWords, wordsLeft, lent}
+use Rattle.marshal.specs.BoardWords.{boardOf, boardWords, wordsLeft, lent}
 
 pub record InterfaceClaims : Type 0 where
   -- A board that is written back where it was read changes nothing, and the words of a board stand for it.

@@ -5,7 +5,7 @@ use mathlib.Core.Path.{_≡_}
 use lib.Count.{ones}
 use lib.ListN.{length}
 use Rattle.supply.specs.Supply.{supply, firstSupply, Budget}
-use Rattle.rows.specs.Words.{vcpuPeriod, taskPeriod, deadline, colourSet, cost, colours-shared, taskRows}
+use Rattle.rows.specs.RowWords.{vcpuPeriod, taskPeriod, deadline, colourSet, cost, colours-shared, taskRows}
 use Rattle.times.specs.First.{At, Late, NoLater}
 use Rattle.times.specs.Times.{taskNeed, timeInPart, taskTime, vcpuNeed, vcpuTime}
 

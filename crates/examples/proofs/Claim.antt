@@ -12,7 +12,7 @@ use Rattle.colours.specs.Sets.{isColourSet, has, coloursBelow, colourAt, placeO
 use Rattle.colours.specs.Cache.{isColourCount, cacheReply}
 use Rattle.colours.specs.Pages.{layoutPage, layoutReply, bleachIndex, bleachReply, dropBits, equationOne}
 use Rattle.supply.specs.Supply.{supply}
-use Rattle.rows.specs.Words.{cost, colours-shared}
+use Rattle.rows.specs.RowWords.{cost, colours-shared}
 use Rattle.rows.specs.Part.{partStart, partEnd, rowsFrom, partOf}
 use Rattle.plan.specs.Tests.{rowTests, planTests}
 use Rattle.times.specs.First.{firstFrom, firstTime}

@@ -4,7 +4,7 @@ ghost use Prim.Native.Nat.{_*_};
 ghost use lib.ListN.{length as lengthOf};
 ghost use Rattle.rows.specs.Part.{partStart, partOf};
 ghost use Rattle.admission.specs.Admission.{admissionReply, timesAfter};
-ghost use Rattle.marshal.specs.Words.{boardOf};
+ghost use Rattle.marshal.specs.BoardWords.{boardOf};
 ghost use Rattle.marshal.specs.Replies.{numberOf, rowOf};
 use marshal::admitted;
 use marshal::board_of;

@@ -2,7 +2,7 @@
 // is lent as its 19 words, and recolour alone changes it.
 ghost use mathlib.Core.Path.{_≡_};
 ghost use Rattle.calls.specs.Calls.{look as lookCall, fault as faultCall, release as releaseCall, colours as coloursCall, recolour as recolourCall, Listed};
-ghost use Rattle.marshal.specs.Words.{wordsLeft, lent};
+ghost use Rattle.marshal.specs.BoardWords.{wordsLeft, lent};
 ghost use Rattle.marshal.specs.Replies.{numberOf, rowOf, valueOf, numberIn, flagIn};
 use marshal::active;
 use marshal::board_of;

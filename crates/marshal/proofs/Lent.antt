@@ -12,7 +12,7 @@ use Rattle.refusal.specs.Reply.{Test, unless}
 use Rattle.board.specs.declared.Board.{Board}
 use Rattle.calls.specs.Table.{State}
 use Rattle.calls.specs.Calls.{Done, withActive, recolour, called, settle}
-use Rattle.marshal.specs.Words.{wordsFrom, boardOf, boardWords, wordsAfter, wordsLeft, lent}
+use Rattle.marshal.specs.BoardWords.{wordsFrom, boardOf, boardWords, wordsAfter, wordsLeft, lent}
 
 taken : (ws : List ℕ) (n k : ℕ) → k + n ≤ length ws → take n (drop k ws) ≡ wordsFrom k n ws
 taken ws zero k h = refl

@@ -4,7 +4,7 @@ ghost use mathlib.Core.Path.{_≡_};
 ghost use Prim.Native.Nat.{_≤_};
 ghost use Rattle.calls.specs.Calls.{withActive};
 ghost use Rattle.frames.specs.Paper.{paperMoved};
-ghost use Rattle.marshal.specs.Words.{wordsFrom, boardOf, wordsAfter};
+ghost use Rattle.marshal.specs.BoardWords.{wordsFrom, boardOf, wordsAfter};
 use board::Board;
 use frames::Moved;
 

@@ -8,7 +8,7 @@ use Rattle.lists.specs.Range.{lowest}
 use Rattle.refusal.specs.Reply.{Answers, Refuses, each, unless}
 use Rattle.refusal.proofs.Order.{unless-each}
 use Rattle.board.specs.declared.Board.{Board}
-use Rattle.rows.specs.Words.{vcpuRows, taskRows}
+use Rattle.rows.specs.RowWords.{vcpuRows, taskRows}
 use Rattle.plan.specs.Tests.{badVcpu, badTask, badOrder, sharesColour, rowTests}
 
 module _ (b : Board) (vcpus tasks : List ℕ) where

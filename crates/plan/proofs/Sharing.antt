@@ -12,7 +12,7 @@ use Rattle.lists.proofs.Split.{cases, below-or-not}
 use Rattle.lists.proofs.Sought.{anyAhead, any-start, any-past}
 use Rattle.lists.proofs.Found.{any-none}
 use Rattle.board.specs.Tests.{shares}
-use Rattle.rows.specs.Words.{vcpuOf, colourSet, taskRows}
+use Rattle.rows.specs.RowWords.{vcpuOf, colourSet, taskRows}
 use Rattle.plan.specs.Tests.{zeroOrAbove, sharesColour}
 
 -- the cost before is 1,000,000 where there is none, and never above

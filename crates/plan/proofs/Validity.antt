@@ -22,7 +22,7 @@ use Rattle.colours.proofs.Ranges.{count-range, colour-set}
 use Rattle.board.specs.declared.Board.{Board}
 use Rattle.board.specs.Tests.{grant, boardTests, boardReply}
 use Rattle.board.proofs.Passed.{split}
-use Rattle.rows.specs.Words.{core, domain, vcpuPeriod, budget, vcpuOf, taskPeriod, deadline, colourSet, costWith, cost, vcpuRows, taskRows}
+use Rattle.rows.specs.RowWords.{core, domain, vcpuPeriod, budget, vcpuOf, taskPeriod, deadline, colourSet, costWith, cost, vcpuRows, taskRows}
 use Rattle.rows.specs.Valid.{TaskRow, VcpuRow, Ascending, Plan}
 use Rattle.plan.specs.Tests.{zeroOrAbove, badTimes, badVcpuWords, badTaskWords, badVcpu, badCost, badFields, badTask, badOrder, sharesColour, rowTests, planTests, planReply}
 

@@ -8,7 +8,7 @@ use Rattle.lists.specs.Range.{from, upto, any}
 use Rattle.refusal.specs.Reply.{Reply, Test, test, each, unless}
 use Rattle.board.specs.declared.Board.{Board}
 use Rattle.board.specs.Tests.{grant, shares, emptyOrOutside}
-use Rattle.rows.specs.Words.{core, domain, vcpuPeriod, budget, vcpuOf, taskPeriod, deadline, colourSet, costWith, vcpuRows, taskRows}
+use Rattle.rows.specs.RowWords.{core, domain, vcpuPeriod, budget, vcpuOf, taskPeriod, deadline, colourSet, costWith, vcpuRows, taskRows}
 
 -- a number is 0 or above a limit
 abbrev pub zeroOrAbove : ℕ → ℕ → Bool

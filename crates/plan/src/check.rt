@@ -7,7 +7,7 @@ ghost use lib.ListN.{length};
 ghost use Rattle.lists.specs.Range.{lowest};
 ghost use Rattle.refusal.specs.Reply.{unless};
 ghost use Rattle.board.specs.Paper.{paperChecked};
-ghost use Rattle.rows.specs.Words.{taskRows};
+ghost use Rattle.rows.specs.RowWords.{taskRows};
 ghost use Rattle.plan.specs.Tests.{badVcpuWords, badTaskWords, badVcpu, badTask, badOrder, sharesColour, rowTests, planReply};
 use crate::fields::bad_order;
 use crate::fields::bad_task;

@@ -6,7 +6,7 @@ ghost use Prim.Native.Nat.{ℕ, _+_, _*_, _<_};
 ghost use lib.ListN.{length};
 ghost use Rattle.lists.specs.Range.{from, any};
 ghost use Rattle.board.specs.Tests.{grant, emptyOrOutside};
-ghost use Rattle.rows.specs.Words.{taskWord, domain, taskRows};
+ghost use Rattle.rows.specs.RowWords.{taskWord, domain, taskRows};
 ghost use Rattle.plan.specs.Tests.{zeroOrAbove, badTimes, badVcpu, badCost, badFields, badTask, badOrder, sharesColour};
 use board::Board;
 use board::grant_of;

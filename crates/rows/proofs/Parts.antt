@@ -14,7 +14,7 @@ use Rattle.lists.specs.Range.{lowestFrom}
 use Rattle.lists.proofs.Split.{below-or-not}
 use Rattle.lists.proofs.Sought.{sought-end}
 use Rattle.lists.proofs.Found.{found, missed, sought-past, sought-le}
-use Rattle.rows.specs.Words.{taskWord, vcpuOf, colourSet, cost, taskRows}
+use Rattle.rows.specs.RowWords.{taskWord, vcpuOf, colourSet, cost, taskRows}
 use Rattle.rows.specs.Part.{isRowOf, nextOwn, nextOther, partStart, partEnd, rowsFrom, partFrom, partOf}
 use Rattle.rows.specs.Valid.{TaskRow, Tasks, Ascending}
 

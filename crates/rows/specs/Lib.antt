@@ -1,4 +1,4 @@
 -- The definitions of `rows`: the words of a row, the part of a VCPU, and a plan whose rows are within their ranges.
-pub mod Words
+pub mod RowWords
 pub mod Part
 pub mod Valid

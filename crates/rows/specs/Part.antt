@@ -5,7 +5,7 @@ use mathlib.Core.List.{List}
 use lib.Dec.{eqb}
 use lib.ListN.{take, drop}
 use Rattle.lists.specs.Range.{lowestFrom}
-use Rattle.rows.specs.Words.{vcpuOf, taskRows}
+use Rattle.rows.specs.RowWords.{vcpuOf, taskRows}
 
 -- a row of the VCPU
 abbrev pub isRowOf : List ℕ → ℕ → ℕ → Bool

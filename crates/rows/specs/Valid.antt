@@ -2,7 +2,7 @@
 use Prim.Native.Nat.{ℕ, _+_, _<_, _≤_}
 use mathlib.Core.List.{List}
 use lib.Count.{ones}
-use Rattle.rows.specs.Words.{vcpuPeriod, budget, vcpuOf, taskPeriod, deadline, colourSet, cost, vcpuRows, taskRows}
+use Rattle.rows.specs.RowWords.{vcpuPeriod, budget, vcpuOf, taskPeriod, deadline, colourSet, cost, vcpuRows, taskRows}
 
 pub record VcpuRow (vcpus : List ℕ) (i : ℕ) : Type 0 where
   pub period-high : vcpuPeriod vcpus i ≤ 1000000

@@ -3,7 +3,7 @@
 // words short of a row belong to none.
 ghost use mathlib.Core.Path.{_≡_};
 ghost use Prim.Native.Nat.{_≤_};
-ghost use Rattle.rows.specs.Words.{taskRows};
+ghost use Rattle.rows.specs.RowWords.{taskRows};
 ghost use Rattle.rows.specs.Part.{nextOwn, nextOther, partStart, partFrom, partOf};
 use crate::TASK_WORDS;
 

@@ -2,7 +2,7 @@
 // in a task's set picks its cost, and that of two sets in common gives the colours reloaded.
 ghost use mathlib.Core.Path.{_≡_};
 ghost use lib.ListN.{getD};
-ghost use Rattle.rows.specs.Words.{vcpuWord, taskWord, cost as costOf, colours-shared};
+ghost use Rattle.rows.specs.RowWords.{vcpuWord, taskWord, cost as costOf, colours-shared};
 use crate::TASK_SET;
 use crate::TASK_WORDS;
 use crate::VCPU_WORDS;

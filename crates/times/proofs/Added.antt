@@ -10,7 +10,7 @@ use lib.Seq.{take-all, take-append-le, drop-append-le, take-append-add}
 use borrow.Author.Tests.{eq-eqb}
 use Rattle.lists.proofs.Split.{below-or-not}
 use Rattle.lists.proofs.Found.{sought-same, sought-beyond}
-use Rattle.rows.specs.Words.{vcpuOf, colourSet, taskRows}
+use Rattle.rows.specs.RowWords.{vcpuOf, colourSet, taskRows}
 use Rattle.rows.specs.Part.{partStart, partEnd, partOf}
 use Rattle.rows.proofs.Parts.{own, other, start-low, start-le, part-is, part-length, part-word}
 use Rattle.times.specs.Times.{taskTime}

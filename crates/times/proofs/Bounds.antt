@@ -11,7 +11,7 @@ use lib.Dec.{eqb}
 use Rattle.lists.proofs.Split.{cases}
 use Rattle.supply.specs.Supply.{supply, firstSupply, Budget}
 use Rattle.supply.proofs.Laws.{first-le, le-supply, le-first}
-use Rattle.rows.specs.Words.{core, vcpuPeriod, budget, taskPeriod, colourSet, cost, colours-shared, vcpuRows, taskRows}
+use Rattle.rows.specs.RowWords.{core, vcpuPeriod, budget, taskPeriod, colourSet, cost, colours-shared, vcpuRows, taskRows}
 use Rattle.times.specs.Times.{need, charge, taskNeed, vcpuCharge, vcpuNeed}
 use Rattle.rows.specs.Valid.{TaskRow, Tasks, VcpuRow, Vcpus}
 use Rattle.times.proofs.Search.{Searchable}

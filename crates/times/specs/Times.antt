@@ -4,7 +4,7 @@ use mathlib.Core.List.{List}
 use lib.Dec.{eqb, leb}
 use Rattle.lists.specs.Choice.{if_then_else_}
 use Rattle.supply.specs.Supply.{supply}
-use Rattle.rows.specs.Words.{core, vcpuPeriod, budget, vcpuOf, taskPeriod, deadline, cost, colours-shared}
+use Rattle.rows.specs.RowWords.{core, vcpuPeriod, budget, vcpuOf, taskPeriod, deadline, cost, colours-shared}
 use Rattle.rows.specs.Part.{partStart, partOf}
 use Rattle.times.specs.First.{Time, firstTime}
 

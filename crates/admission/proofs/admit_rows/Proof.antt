@@ -5,7 +5,7 @@ use lib.Dec.{ltb}
 use borrow.Author.Tests.{lt-ltb, le-ltb}
 use borrow.Author.Needs.{needs}
 use Rattle.refusal.specs.Reply.{Answers, unless}
-use Rattle.rows.specs.Words.{vcpuRows}
+use Rattle.rows.specs.RowWords.{vcpuRows}
 use Rattle.admission.specs.Admission.{timeTests}
 use Rattle.admission.proofs.Admits.{lateVcpu, time-reply}
 use Rattle.admission.proofs.Written.{refused, length-times, all-times}

@@ -5,7 +5,7 @@ use native.Mathlib.Omega.{arith}
 use mathlib.Core.Path.{_≡_}
 use lib.Bits.{bitAnd}
 use lib.Count.{ones}
-use Rattle.rows.specs.Words.{colours-shared}
+use Rattle.rows.specs.RowWords.{colours-shared}
 use Rattle.times.specs.Times.{charge}
 use Rattle.times.proofs.Bounds.{shared-le}
 use borrow.Author.Needs.{needs}

@@ -2,7 +2,7 @@
 use Prim.Native.Nat.{ℕ, _+_, _-_, _*_, _≤_}
 use native.Mathlib.Omega.{arith}
 use mathlib.Core.Path.{_≡_, sym, ap, ap₂, _∙_}
-use Rattle.rows.specs.Words.{taskPeriod, cost}
+use Rattle.rows.specs.RowWords.{taskPeriod, cost}
 use Rattle.rows.specs.Valid.{TaskRow}
 use Rattle.times.specs.Times.{need, charge, taskNeed}
 use Rattle.times.proofs.Needs.{need-next}

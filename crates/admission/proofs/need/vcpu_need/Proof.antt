@@ -6,7 +6,7 @@ use mathlib.Core.List.{List}
 use mathlib.Core.Logic.{⊎-elim}
 use mathlib.Core.Path.{_≡_, sym, ap, ap₂, _∙_}
 use borrow.Author.Tests.{eq-eqb, ne-eqb}
-use Rattle.rows.specs.Words.{core, vcpuPeriod, budget}
+use Rattle.rows.specs.RowWords.{core, vcpuPeriod, budget}
 use Rattle.times.specs.Times.{arrivals, need, vcpuCharge, vcpuNeed}
 use Rattle.times.proofs.Needs.{need-next}
 use Rattle.times.proofs.Bounds.{vcpu-need-le}

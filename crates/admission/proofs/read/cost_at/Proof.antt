@@ -2,7 +2,7 @@
 use Prim.Native.Nat.{_≤_}
 use native.Mathlib.Omega.{arith}
 use lib.Count.{ones}
-use Rattle.rows.specs.Words.{cost}
+use Rattle.rows.specs.RowWords.{cost}
 use Rattle.admission.proofs.read.cost_at.Statement.{statement}
 use Rattle.admission.proofs.read.cost_at.Tie as tie
 

@@ -3,7 +3,7 @@ use Prim.Native.Nat.{ℕ}
 use native.Mathlib.Omega.{arith}
 use mathlib.Core.List.{List}
 use mathlib.Core.Path.{_≡_, ap₂, _∙_}
-use Rattle.rows.specs.Words.{vcpuOf}
+use Rattle.rows.specs.RowWords.{vcpuOf}
 use Rattle.rows.specs.Part.{partFrom, partOf}
 use Rattle.rows.proofs.Parts.{part-at-start}
 use Rattle.admission.proofs.Fit.{Fit, fit, fit-read, time-read}

@@ -7,7 +7,7 @@ use mathlib.Core.Bool.{false}
 use mathlib.Core.List.{List}
 use mathlib.Core.Path.{_≡_, refl, sym, ap, _∙_}
 use borrow.Author.Needs.{needs}
-use Rattle.rows.specs.Words.{vcpuOf, taskRows}
+use Rattle.rows.specs.RowWords.{vcpuOf, taskRows}
 use Rattle.rows.specs.Part.{isRowOf, nextOwn, partStart}
 use Rattle.rows.proofs.Parts.{start-le, start-from, before-part}
 use Rattle.times.specs.Times.{taskTime}

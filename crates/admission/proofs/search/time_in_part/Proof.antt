@@ -5,7 +5,7 @@ use native.Mathlib.Nat.{le-trans}
 use native.Mathlib.Omega.{arith}
 use mathlib.Core.Path.{_≡_, sym}
 use Rattle.supply.specs.Supply.{supply, firstSupply}
-use Rattle.rows.specs.Words.{deadline}
+use Rattle.rows.specs.RowWords.{deadline}
 use Rattle.times.specs.Times.{taskNeed, timeInPart}
 use Rattle.times.proofs.Search.{Searchable, Before, before-one, next, found, missed, exceeded}
 use Rattle.times.proofs.Bounds.{task-search}

@@ -2,7 +2,7 @@
 use Prim.Native.Nat.{ℕ, _+_, _-_, _≤_}
 use native.Mathlib.Omega.{arith}
 use mathlib.Core.Path.{_≡_, sym}
-use Rattle.rows.specs.Words.{vcpuPeriod}
+use Rattle.rows.specs.RowWords.{vcpuPeriod}
 use Rattle.times.specs.Times.{vcpuNeed, vcpuTime}
 use Rattle.times.proofs.Search.{Searchable, Before, before-one, next, found, missed}
 use Rattle.times.proofs.Bounds.{vcpu-search}

@@ -4,7 +4,7 @@ use Rattle.refusal.specs.Reply.{Reply}
 use Rattle.board.specs.declared.Board.{Board}
 use Rattle.calls.specs.Table.{stateOf}
 use Rattle.calls.specs.Calls.{Answer, Outcome, withActive, recolour as recolourCall}
-use Rattle.marshal.specs.Words.{boardOf, wordsAfter}
+use Rattle.marshal.specs.BoardWords.{boardOf, wordsAfter}
 use Rattle.marshal.specs.Replies.{numberIn, flagIn}
 use Rattle.marshal.proofs.Lent.{words-left}
 use Rattle.marshal.proofs.Tellings.{told-same}

@@ -5,7 +5,7 @@ use mathlib.Core.List.{List, _++_}
 use mathlib.Core.Path.{_≡_, refl, sym, ap, ap₂, _∙_}
 use lib.ListN.{take, drop, set, replicate}
 use Rattle.lists.proofs.Written.{write-next}
-use Rattle.marshal.specs.Words.{wordsFrom}
+use Rattle.marshal.specs.BoardWords.{wordsFrom}
 use Rattle.marshal.proofs.Lent.{word-at}
 use borrow.Author.Needs.{needs}
 use Rattle.marshal.proofs.words.eight.Statement.{statement}

@@ -9,7 +9,7 @@ use Rattle.calls.specs.Calls.{withActive}
 use Rattle.frames.specs.declared.recolouring.Moved.{Moved}
 use Rattle.frames.specs.declared.recolouring.Moved.the-variants.{Count}
 use Rattle.frames.specs.Paper.{paperMoved}
-use Rattle.marshal.specs.Words.{boardOf, wordsAfter}
+use Rattle.marshal.specs.BoardWords.{boardOf, wordsAfter}
 use Rattle.marshal.proofs.Lent.{one-word}
 use borrow.Author.Needs.{needs}
 use Rattle.marshal.proofs.words.write_recoloured.Statement.{statement}

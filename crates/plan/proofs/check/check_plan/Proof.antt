@@ -5,7 +5,7 @@ use mathlib.Core.Bool.{false}
 use mathlib.Core.Path.{_≡_, sym, _∙_}
 use lib.ListN.{length}
 use Rattle.refusal.specs.Reply.{unless}
-use Rattle.rows.specs.Words.{vcpuRows}
+use Rattle.rows.specs.RowWords.{vcpuRows}
 use Rattle.plan.specs.Tests.{badVcpuWords, badTaskWords, planTests, planReply}
 use Rattle.plan.proofs.Validity.{vcpus-most, tasks-most}
 use borrow.Author.Needs.{needs}

@@ -4,7 +4,7 @@ use mathlib.Core.Path.{_≡_}
 use lib.Dec.{ltb}
 use borrow.Author.Tests.{lt-ltb, le-ltb}
 use borrow.Author.Needs.{needs}
-use Rattle.rows.specs.Words.{vcpuRows, taskRows}
+use Rattle.rows.specs.RowWords.{vcpuRows, taskRows}
 use Rattle.plan.proofs.Faults.{wrongVcpu, wrongTask, wrongOrder, row-reply}
 use Rattle.plan.proofs.check.check_rows.Statement.{statement}
 use Rattle.plan.proofs.check.check_rows.Tie as tie

@@ -10,7 +10,7 @@ use borrow.Author.Needs.{needs}
 use Rattle.lists.specs.Range.{from, any}
 use Rattle.lists.proofs.Sought.{anyAhead, any-hit, any-miss, any-end}
 use Rattle.lists.proofs.Split.{neither}
-use Rattle.rows.specs.Words.{costWith}
+use Rattle.rows.specs.RowWords.{costWith}
 use Rattle.plan.specs.Tests.{zeroOrAbove, badCost}
 use Rattle.plan.proofs.Sharing.{cost-test}
 use Rattle.plan.proofs.fields.bad_costs.Statement.{statement}

@@ -7,7 +7,7 @@ use mathlib.Core.Logic.{⊎-elim}
 use mathlib.Core.Path.{_≡_, sym, _∙_}
 use borrow.Author.Tests.{eq-eqb, ne-eqb}
 use Rattle.lists.proofs.Sought.{anyAhead, any-hit, any-miss, any-end}
-use Rattle.rows.specs.Words.{vcpuOf, colourSet, taskRows}
+use Rattle.rows.specs.RowWords.{vcpuOf, colourSet, taskRows}
 use Rattle.plan.specs.Tests.{sharesColour}
 use Rattle.plan.proofs.Sharing.{sharing, shares-later}
 use Rattle.plan.proofs.fields.shares_colour.Statement.{statement}

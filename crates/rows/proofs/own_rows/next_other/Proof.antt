@@ -4,7 +4,7 @@ use native.Mathlib.Omega.{arith}
 use mathlib.Core.Bool.{not}
 use mathlib.Core.Path.{_≡_, refl, ap}
 use Rattle.lists.proofs.Sought.{Seeking, seek-start, seek-hit, seek-miss, seek-end}
-use Rattle.rows.specs.Words.{taskRows}
+use Rattle.rows.specs.RowWords.{taskRows}
 use Rattle.rows.proofs.Parts.{other, is-own, not-own}
 use Rattle.rows.proofs.own_rows.next_other.Statement.{statement}
 use Rattle.rows.proofs.own_rows.next_other.Tie as tie

@@ -3,7 +3,7 @@ use Prim.Native.Nat.{_-_}
 use native.Mathlib.Omega.{arith}
 use mathlib.Core.Path.{_≡_, refl, sym, _∙_}
 use Rattle.lists.proofs.Sought.{sought-hit, sought-miss, sought-end}
-use Rattle.rows.specs.Words.{taskRows}
+use Rattle.rows.specs.RowWords.{taskRows}
 use Rattle.rows.specs.Part.{nextOwn}
 use Rattle.rows.proofs.Parts.{is-own, not-own}
 use Rattle.rows.proofs.own_rows.next_own.Statement.{statement}

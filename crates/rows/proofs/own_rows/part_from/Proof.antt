@@ -1,7 +1,7 @@
 -- `rows::own_rows::part_from` meets its contract: both ends of the part lie within the whole rows.
 use Prim.Native.Nat.{_≤_}
 use native.Mathlib.Omega.{arith}
-use Rattle.rows.specs.Words.{taskRows}
+use Rattle.rows.specs.RowWords.{taskRows}
 use Rattle.rows.specs.Part.{rowsFrom, partFrom}
 use Rattle.rows.proofs.Parts.{own, other, sought-within, sought-ge}
 use borrow.Author.Needs.{needs}

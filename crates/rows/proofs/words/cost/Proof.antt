@@ -1,7 +1,7 @@
 -- `rows::words::cost` meets its contract: a word of 32 bits has at most 32 ones.
 use native.Mathlib.Omega.{arith}
 use lib.Count.{ones-le}
-use Rattle.rows.specs.Words.{cost}
+use Rattle.rows.specs.RowWords.{cost}
 use borrow.Author.Needs.{needs}
 use Rattle.rows.proofs.words.cost.Statement.{statement}
 use Rattle.rows.proofs.words.cost.Tie as tie

@@ -1,5 +1,5 @@
 -- `rows::words::shared` meets its contract.
-use Rattle.rows.specs.Words.{colours-shared}
+use Rattle.rows.specs.RowWords.{colours-shared}
 use borrow.Author.Needs.{needs}
 use Rattle.rows.proofs.words.shared.Statement.{statement}
 use Rattle.rows.proofs.words.shared.Tie as tie
