@@ -7,18 +7,6 @@ use borrow.Author.Needs.{needs}
 use Rattle.marshal.proofs.replies.active.Statement.{statement}
 use Rattle.marshal.proofs.replies.active.Tie as tie
 
-enum-known-answer : tie.Need-enum-known-answer
-enum-known-answer c = search needs
-
-answered-requires : tie.Need-answered-requires
-answered-requires c κs = search needs
-
-enum-known-answer-2 : tie.Need-enum-known-answer-2
-enum-known-answer-2 c = search needs
-
-refused-requires : tie.Need-refused-requires
-refused-requires c κs = search needs
-
 returns : tie.Need-returns
 returns c = tells-answer numberIn flagIn (ap paperActive (c .before .before .answer .given .1)) (c .answered .ensures)
 
@@ -28,4 +16,10 @@ returns-2 c = tells-refusal numberIn flagIn (ap paperActive (c .before .before .
 pub active-spec : {M : Type 1} → statement M
 active-spec =
     tie.close
-    (tie.spec enum-known-answer answered-requires enum-known-answer-2 refused-requires returns returns-2)
+    (tie.spec
+    (λ c. search needs)
+    (λ c κs. search needs)
+    (λ c. search needs)
+    (λ c κs. search needs)
+    returns
+    returns-2)

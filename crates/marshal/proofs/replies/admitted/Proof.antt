@@ -7,18 +7,6 @@ use borrow.Author.Needs.{needs}
 use Rattle.marshal.proofs.replies.admitted.Statement.{statement}
 use Rattle.marshal.proofs.replies.admitted.Tie as tie
 
-enum-told : tie.Need-enum-told
-enum-told c = search needs
-
-answered-requires : tie.Need-answered-requires
-answered-requires c κs = search needs
-
-enum-known-answer : tie.Need-enum-known-answer
-enum-known-answer c = search needs
-
-refused-requires : tie.Need-refused-requires
-refused-requires c κs = search needs
-
 returns : tie.Need-returns
 returns c = tells-answer nothing nothing (ap paperAdmission (c .before .enum-told .given .1)) (c .answered .ensures)
 
@@ -28,4 +16,10 @@ returns-2 c = tells-refusal nothing nothing (ap paperAdmission (c .before .befor
 pub admitted-spec : {M : Type 1} → statement M
 admitted-spec =
     tie.close
-    (tie.spec enum-told answered-requires enum-known-answer refused-requires returns returns-2)
+    (tie.spec
+    (λ c. search needs)
+    (λ c κs. search needs)
+    (λ c. search needs)
+    (λ c κs. search needs)
+    returns
+    returns-2)

@@ -7,24 +7,6 @@ use borrow.Author.Needs.{needs}
 use Rattle.marshal.proofs.replies.faulted.Statement.{statement}
 use Rattle.marshal.proofs.replies.faulted.Tie as tie
 
-enum-known-answer : tie.Need-enum-known-answer
-enum-known-answer c = search needs
-
-answered-requires : tie.Need-answered-requires
-answered-requires c κs = search needs
-
-enum-known-answer-2 : tie.Need-enum-known-answer-2
-enum-known-answer-2 c = search needs
-
-answered-requires-2 : tie.Need-answered-requires-2
-answered-requires-2 c κs = search needs
-
-enum-known-answer-3 : tie.Need-enum-known-answer-3
-enum-known-answer-3 c = search needs
-
-refused-requires : tie.Need-refused-requires
-refused-requires c κs = search needs
-
 returns : tie.Need-returns
 returns c = tells-answer numberIn flagIn (ap paperFaulted (c .before .before .answer .given .1)) (c .answered .ensures)
 
@@ -37,5 +19,13 @@ returns-3 c = tells-refusal numberIn flagIn (ap paperFaulted (c .before .before 
 pub faulted-spec : {M : Type 1} → statement M
 faulted-spec =
     tie.close
-    (tie.spec enum-known-answer answered-requires enum-known-answer-2 answered-requires-2 enum-known-answer-3 refused-requires returns
-    returns-2 returns-3)
+    (tie.spec
+    (λ c. search needs)
+    (λ c κs. search needs)
+    (λ c. search needs)
+    (λ c κs. search needs)
+    (λ c. search needs)
+    (λ c κs. search needs)
+    returns
+    returns-2
+    returns-3)
