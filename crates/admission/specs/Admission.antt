@@ -1,5 +1,4 @@
--- Admission of a plan: document 01, refusals 2 to 7 and 15 to 22 in order, and the times of VCPUs and then of tasks, in row order, written to
--- the lent list. The rest of the list, and all of it on a refusal, does not change.
+-- Admission of a plan: document 01, refusals 2 to 7 and 15 to 22 in order, and the lent list: the times of VCPUs, then of tasks, the rest as before.
 use Prim.Native.Nat.{ℕ}
 use mathlib.Core.Bool.{Bool, true, false}
 use mathlib.Core.List.{List, _++_, map}

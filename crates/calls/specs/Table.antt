@@ -1,5 +1,4 @@
--- The frame table: document 01, "Board and frame table". Its words, and the frames of a domain, ascending: those mapped to a page,
--- the free ones of a colour set, and those that lie outside a set.
+-- The frame table: document 01, "Board and frame table". Its words, what a frame is to a call, and the frames, ascending, that a call seeks.
 use Prim.Native.Nat.{ℕ, _+_, _-_, _*_}
 use mathlib.Core.Bool.{Bool, not, _&&_}
 use mathlib.Core.List.{List}
@@ -46,9 +45,13 @@ hasWord t w f = eqb (word t f) w
 abbrev pub isFree : List ℕ → ℕ → ℕ → ℕ → Bool
 isFree t n c f = hasWord t 0 f && inSet n c f
 
+-- domain d holds it,
+abbrev pub isHeld : List ℕ → ℕ → ℕ → Bool
+isHeld t d f = isOf d (word t f)
+
 -- domain d holds it, with a colour outside set c
 abbrev pub isStray : List ℕ → ℕ → ℕ → ℕ → ℕ → Bool
-isStray t n d c f = isOf d (word t f) && not (inSet n c f)
+isStray t n d c f = isHeld t d f && not (inSet n c f)
 
 -- the frames that pass a test, ascending
 unfoldable pub framesWith : State → (ℕ → Bool) → List ℕ
