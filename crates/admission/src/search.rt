@@ -9,10 +9,11 @@ ghost use Rattle.rows.specs.Valid.{Tasks, Vcpus};
 ghost use Rattle.admission.specs.Paper.{paperFound};
 use crate::need::task_need;
 use crate::need::vcpu_need;
-use crate::read::task_at;
-use crate::read::vcpu_at;
 use rows::TASK_DEADLINE;
 use rows::VCPU_PERIOD;
+use rows::charges;
+use rows::task_word;
+use rows::vcpu_word;
 
 pub enum Found {
     At(u32),
@@ -30,16 +31,17 @@ fn first_supply(period: u32, budget: u32, x: u32) -> u64
     gaps as u64 + whole as u64 * (period as u64) + rest as u64 + 1
 }
 
-// The time of row i of a part under its VCPU's period and budget. A need above the deadline is late
-// before it is inverted, since no supply exceeds its time.
+// The time of row i of a part under its VCPU's period and budget. What the rows before it charge is worked
+// out once. A need above the deadline is late before it is inverted, since no supply exceeds its time.
 pub(crate) fn time_in_part(period: u32, budget: u32, reload: u32, part: &[u32], i: u32) -> Found
     requires { ⌜ Budget period budget × (period ≤ 1000000) × (reload ≤ 10000) × Tasks (now part) × (i < taskRows (now part)) ⌝ }
     ensures { λ r. ⌜ paperFound r ≡ timeInPart period budget reload (now (part .entry)) i ⌝ }
 {
-    let due = task_at(part, i, TASK_DEADLINE) as u64;
+    let due = task_word(part, i, TASK_DEADLINE) as u64;
+    let charged = charges(reload, part, i);
     let mut t: u64 = 1;
     while t <= due {
-        let need = task_need(reload, part, i, t as u32);
+        let need = task_need(part, i, &charged, t as u32);
         if due < need {
             return Found::Late;
         }
@@ -57,7 +59,7 @@ pub(crate) fn vcpu_time(vcpus: &[u32], i: u32) -> Found
     requires { ⌜ Vcpus (now vcpus) × (i < vcpuRows (now vcpus)) ⌝ }
     ensures { λ r. ⌜ paperFound r ≡ vcpuTimeOf (now (vcpus .entry)) i ⌝ }
 {
-    let due = vcpu_at(vcpus, i, VCPU_PERIOD) as u64;
+    let due = vcpu_word(vcpus, i, VCPU_PERIOD) as u64;
     let mut t: u64 = 1;
     while t <= due {
         let need = vcpu_need(vcpus, i, t as u32);

@@ -1,2 +1,3 @@
--- The laws of the part of a VCPU.
+-- The laws of the part of a VCPU, and of the charges of earlier rows.
 pub mod Parts
+pub mod Charging

@@ -2,7 +2,6 @@
 -- of a VCPU row, period, deadline, colour set, and the costs for 1 to 16 colours.
 use Prim.Native.Nat.{ℕ, _+_, _*_, _/_}
 use mathlib.Core.List.{List}
-use lib.Bits.{bitAnd}
 use lib.Count.{ones}
 use lib.ListN.{length, getD}
 
@@ -43,10 +42,6 @@ costWith tasks j k = taskWord tasks j (3 + k)
 -- a task's k is the number of ones in its colour set; its cost is the k-th cost
 unfoldable pub cost : List ℕ → ℕ → ℕ
 cost tasks j = costWith tasks j (ones (colourSet tasks j))
-
--- the count of colours that two tasks both hold
-unfoldable pub colours-shared : List ℕ → ℕ → ℕ → ℕ
-colours-shared tasks i j = ones (bitAnd (colourSet tasks j) (colourSet tasks i))
 
 -- whole rows
 abbrev pub vcpuRows : List ℕ → ℕ

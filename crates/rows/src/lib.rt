@@ -1,14 +1,16 @@
-// The rows of a plan as words, and the part of a VCPU: document 01, "Plans". No function here requires
-// anything of its caller: a word past the end of a list reads as 0.
+// The rows of a plan as words, what an arrival of an earlier task charges, and the part of a VCPU:
+// document 01, "Plans", with document 02, No. 3. No function here requires anything of its caller: a
+// word past the end of a list reads as 0.
+mod arrival;
 mod own_rows;
 mod words;
 
+pub use arrival::charges;
 pub use own_rows::next_own;
 pub use own_rows::part;
 pub use own_rows::part_from;
 pub use own_rows::part_start;
 pub use words::cost;
-pub use words::shared;
 pub use words::task_word;
 pub use words::vcpu_word;
 

@@ -1,8 +1,8 @@
 // Words of the rows: document 01, VCPU rows of four words and task rows of twenty. The count of ones
-// in a task's set picks its cost, and that of two sets in common gives the colours reloaded.
+// in a task's set picks its cost.
 ghost use mathlib.Core.Path.{_≡_};
 ghost use lib.ListN.{getD};
-ghost use Rattle.rows.specs.RowWords.{vcpuWord, taskWord, cost as costOf, colours-shared};
+ghost use Rattle.rows.specs.RowWords.{vcpuWord, taskWord, cost as costOf};
 use crate::TASK_SET;
 use crate::TASK_WORDS;
 use crate::VCPU_WORDS;
@@ -34,11 +34,4 @@ pub fn cost(tasks: &[u32], row: u32) -> u32
 {
     let k = u32::count_ones(task_word(tasks, row, TASK_SET));
     task_word(tasks, row, TASK_SET + k)
-}
-
-// How many colours tasks i and j both hold.
-pub fn shared(tasks: &[u32], i: u32, j: u32) -> u32
-    ensures { λ r. ⌜ r ≡ colours-shared (now (tasks .entry)) i j ⌝ }
-{
-    u32::count_ones(task_word(tasks, j, TASK_SET) & task_word(tasks, i, TASK_SET))
 }

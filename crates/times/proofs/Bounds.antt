@@ -1,23 +1,26 @@
 -- Tasks and VCPUs: the bounds of their charges and needs, and that the search serves both.
-use Prim.Native.Nat.{ℕ, _+_, _*_, _/_, _%_, _<_, _≤_}
+use Prim.Native.Nat.{ℕ, suc, _+_, _-_, _*_, _/_, _%_, _<_, _≤_}
 use native.Mathlib.Nat.{le-refl, le-trans, mul-le-mul, mul-le-mul-left, mul-le-mul-right}
 use native.Mathlib.Omega.{arith}
 use mathlib.Core.List.{List}
-use mathlib.Core.Path.{_≡_}
+use mathlib.Core.Path.{_≡_, refl}
 use lib.Arith.{bin-ind}
 use lib.Bits.{bitAnd, and-step, and-zero-l}
 use lib.Count.{ones, ones-step}
 use lib.Dec.{eqb}
+use lib.ListN.{getD}
 use Rattle.lists.proofs.Split.{cases}
 use Rattle.supply.specs.Supply.{supply, firstSupply, Budget}
 use Rattle.supply.proofs.Laws.{first-le, le-supply, le-first}
-use Rattle.rows.specs.RowWords.{core, vcpuPeriod, budget, taskPeriod, colourSet, cost, colours-shared, vcpuRows, taskRows}
-use Rattle.times.specs.Times.{need, charge, taskNeed, vcpuCharge, vcpuNeed}
+use Rattle.rows.specs.RowWords.{core, vcpuPeriod, budget, taskPeriod, colourSet, cost, vcpuRows, taskRows}
+use Rattle.rows.specs.Reload.{heldFrom, reloadedSet, reloaded, charge, charges}
+use Rattle.times.specs.Times.{need, taskNeed, vcpuCharge, vcpuNeed}
+use Rattle.rows.proofs.Charging.{charge-kept}
 use Rattle.rows.specs.Valid.{TaskRow, Tasks, VcpuRow, Vcpus}
 use Rattle.times.proofs.Search.{Searchable}
-use Rattle.times.proofs.Needs.{need-mono, own-le, need-le}
+use Rattle.times.proofs.Needs.{need-mono, own-le, need-le, need-same}
 
--- no more colours are shared than one of the two holds
+-- no more colours are in two sets than in one of them
 pub ones-and : (a b : ℕ) → ones (bitAnd a b) ≤ ones a
 ones-and =
     bin-ind (λ (a : ℕ). (b : ℕ) → ones (bitAnd a b) ≤ ones a)
@@ -27,18 +30,30 @@ ones-and =
     let low : bitAnd a b % 2 ≤ a % 2 = omega (arith, and-step a b) in
     omega (arith, low, rw half at (ones-step (bitAnd a b)), ones-step a, ih (b / 2)))
 
-pub shared-le : (part : List ℕ) (i j : ℕ) → TaskRow part j → colours-shared part i j ≤ 16
-unfolding colours-shared
-shared-le part i j r = le-trans (ones-and (colourSet part j) (colourSet part i)) (r .colours-high)
+pub reloaded-le : (part : List ℕ) (i j : ℕ) → TaskRow part j → reloaded part i j ≤ 16
+unfolding reloaded reloadedSet
+reloaded-le part i j r = le-trans (ones-and (colourSet part j) (heldFrom part (suc j) (i - j))) (r .colours-high)
 
 pub charge-le : (reload : ℕ) (part : List ℕ) (i j : ℕ) → reload ≤ 10000 → TaskRow part j → charge reload part i j ≤ 1160000
 unfolding charge
-charge-le reload part i j h r = omega (arith, r .cost-high, mul-le-mul h (shared-le part i j r))
+charge-le reload part i j h r = omega (arith, r .cost-high, mul-le-mul h (reloaded-le part i j r))
 
-pub task-need-le : (reload : ℕ) (part : List ℕ) (i n t : ℕ) → reload ≤ 10000 → Tasks part → i < taskRows part → n ≤ i → t ≤ 1000000
-    → need (cost part i) (taskPeriod part) (charge reload part i) n t ≤ 1000000 + n * 1160000000000
-task-need-le reload part i n t h rows here l ht =
-    let b = need-le (cost part i) (taskPeriod part) (charge reload part i) 1160000 n t (λ j k. charge-le reload part i j h (rows .row j (omega arith))) in
+-- the charges that a search keeps are these, and give the need
+pub kept-le : (reload : ℕ) (part : List ℕ) (i : ℕ) → reload ≤ 10000 → Tasks part → i < taskRows part → (j : ℕ) → j < i → getD (charges reload part i) j 0 ≤ 1160000
+kept-le reload part i h rows here j l =
+    rw (charge-kept reload part i (omega (arith, rows .few)) j l) (charge-le reload part i j h (rows .row j (omega arith)))
+
+pub kept-need : (reload : ℕ) (part : List ℕ) (i t : ℕ) → i < 32
+    → need (cost part i) (taskPeriod part) (λ (j : ℕ). getD (charges reload part i) j 0) i t ≡ taskNeed reload part i t
+unfolding taskNeed
+kept-need reload part i t few =
+    need-same (cost part i) (taskPeriod part) (taskPeriod part) (charge reload part i) (λ (j : ℕ). getD (charges reload part i) j 0) i t
+    (λ j l. (refl, charge-kept reload part i few j l))
+
+pub task-need-le : (part : List ℕ) (charged : ℕ → ℕ) (i n t : ℕ) → Tasks part → i < taskRows part → n ≤ i → t ≤ 1000000 → ((j : ℕ) → j < i → charged j ≤ 1160000)
+    → need (cost part i) (taskPeriod part) charged n t ≤ 1000000 + n * 1160000000000
+task-need-le part charged i n t rows here l ht few =
+    let b = need-le (cost part i) (taskPeriod part) charged 1160000 n t (λ j k. few j (omega arith)) in
     let m = mul-le-mul-left n (mul-le-mul-right 1160000 ht) in
     omega (arith, b, m, rows .row i here .cost-high)
 

@@ -3,4 +3,5 @@ pub mod Search
 pub mod Needs
 pub mod Bounds
 pub mod Planner
+pub mod SafeSide
 pub mod Added

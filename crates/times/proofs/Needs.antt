@@ -1,10 +1,11 @@
--- The laws of need, over any periods and charges: it never falls, is at least the own cost, and has a bound for bounded charges.
+-- The laws of need, over any periods and charges: it never falls, is at least the own cost, has a bound for bounded charges,
+-- and goes by its periods and charges.
 use Prim.Native.Nat.{ℕ, zero, suc, _+_, _-_, _*_, _/_, _<_, _≤_}
-use native.Mathlib.Nat.{le-refl, le-trans, add-le-add, mul-le-mul, mul-le-mul-right, le-div-iff-mul-le, div-mul-le-self, div-zero, eq-zero-or-pos, div-lt-iff-lt-mul, le-of-suc-le-suc, le-of-eq, le-mul-of-pos-right, suc-mul}
+use native.Mathlib.Nat.{le-refl, le-trans, add-le-add, mul-le-mul, mul-le-mul-left, mul-le-mul-right, le-div-iff-mul-le, div-mul-le-self, div-zero, eq-zero-or-pos, div-lt-iff-lt-mul, le-of-suc-le-suc, le-of-eq, le-mul-of-pos-right, suc-mul}
 use native.Mathlib.Numerals.{add-one}
 use native.Mathlib.Omega.{arith}
 use mathlib.Core.Logic.{⊎-elim}
-use mathlib.Core.Path.{_≡_, sym, _∙_}
+use mathlib.Core.Path.{_≡_, refl, sym, _∙_}
 use Rattle.times.specs.Times.{arrivals, need}
 
 div-mono : (k : ℕ) {a c : ℕ} → a ≤ c → a / k ≤ c / k
@@ -54,3 +55,23 @@ module _ (own : ℕ) (period charge : ℕ → ℕ) where
       let rest = need-le k n t (λ j l. h j (omega arith)) in
       let one = mul-le-mul (arrivals-le (period n) t) (h n (omega arith)) in
       omega (arith, rest, one, suc-mul n (t * k))
+
+-- less to do at the same periods
+pub need-less : (own own′ : ℕ) (period period′ charge charge′ : ℕ → ℕ) (n t : ℕ) → own′ ≤ own
+    → ((j : ℕ) → j < n → (period′ j ≡ period j) × (charge′ j ≤ charge j))
+    → need own′ period′ charge′ n t ≤ need own period charge n t
+unfolding need
+need-less own own′ period period′ charge charge′ zero t h f = h
+need-less own own′ period period′ charge charge′ (suc n) t h f =
+    let last = f n (omega arith) in
+    add-le-add (need-less own own′ period period′ charge charge′ n t h (λ j l. f j (omega arith)))
+    (rw (last .0) (mul-le-mul-left (arrivals t (period n)) (last .1)))
+
+-- the same at each row
+pub need-same : (own : ℕ) (period period′ charge charge′ : ℕ → ℕ) (n t : ℕ) → ((j : ℕ) → j < n → (period′ j ≡ period j) × (charge′ j ≡ charge j))
+    → need own period′ charge′ n t ≡ need own period charge n t
+unfolding need
+need-same own period period′ charge charge′ zero t f = refl
+need-same own period period′ charge charge′ (suc n) t f =
+    let last = f n (omega arith) in
+    rw (need-same own period period′ charge charge′ n t (λ j l. f j (omega arith)), last .0, last .1)

@@ -1,6 +1,6 @@
--- What a planner relies on: what a reported time says, and that lowering a cost, the reload or a colour overlap, or raising the VCPU's
--- budget, never makes a task's time later; a task added at the end changes no other task's time.
-use Prim.Native.Nat.{ℕ, zero, suc, _+_, _*_, _<_, _≤_}
+-- What a planner relies on: what a reported time says, and that lowering a cost, the reload or the colours reloaded, or raising the
+-- VCPU's budget, never makes a task's time later; a task added at the end changes no other task's time.
+use Prim.Native.Nat.{ℕ, zero, suc, _+_, _-_, _*_, _<_, _≤_}
 use native.Mathlib.Nat.{le-refl, le-trans, add-le-add, mul-le-mul, mul-le-mul-left}
 use native.Mathlib.Omega.{arith}
 use mathlib.Core.Bool.{Bool, true, true≢false}
@@ -13,10 +13,12 @@ use borrow.Author.Tests.{leb-true, leb-false, le-leb}
 use Rattle.lists.proofs.Split.{below-or-not}
 use Rattle.supply.specs.Supply.{supply, Budget}
 use Rattle.supply.proofs.Laws.{supply-budget}
-use Rattle.rows.specs.RowWords.{vcpuPeriod, taskWord, taskPeriod, deadline, colourSet, cost, colours-shared}
+use Rattle.rows.specs.RowWords.{vcpuPeriod, taskWord, taskPeriod, deadline, colourSet, cost}
+use Rattle.rows.specs.Reload.{heldFrom, reloadedSet, reloaded, charge}
 use Rattle.times.specs.First.{Time, At, Late, firstTime, NoLater}
-use Rattle.times.specs.Times.{arrivals, need, charge, taskNeed, timeInPart, vcpuNeed, vcpuTime}
+use Rattle.times.specs.Times.{arrivals, need, taskNeed, timeInPart, vcpuNeed, vcpuTime}
 use Rattle.times.proofs.Search.{first-same, told-first, told-none}
+use Rattle.times.proofs.Needs.{need-less, need-same}
 
 -- a reported time: the supply in it covers the need, and in no earlier microsecond
 pub time-is-first : (p q reload : ℕ) (part : List ℕ) (i t : ℕ) → timeInPart p q reload part i ≡ At t
@@ -46,7 +48,7 @@ unfolding vcpuTime
 vcpu-late-is-late vcpus i e s a b = leb-false _ _ (told-none (λ (x : ℕ). leb (vcpuNeed vcpus i x) x) (vcpuPeriod vcpus i) e s a b)
 
 -- a test that is passed wherever another is has its first time no later
-no-later : (ok ok′ : ℕ → Bool) (bound : ℕ) → ((s : ℕ) → s ≤ bound → ok s ≡ true → ok′ s ≡ true) → NoLater (firstTime ok bound) (firstTime ok′ bound)
+pub no-later : (ok ok′ : ℕ → Bool) (bound : ℕ) → ((s : ℕ) → s ≤ bound → ok s ≡ true → ok′ s ≡ true) → NoLater (firstTime ok bound) (firstTime ok′ bound)
 no-later ok ok′ bound f = go (firstTime ok bound) (firstTime ok′ bound) refl refl
   where
     go : (a b : Time) → firstTime ok bound ≡ a → firstTime ok′ bound ≡ b → NoLater a b
@@ -59,21 +61,10 @@ no-later ok ok′ bound f = go (firstTime ok bound) (firstTime ok′ bound) refl
         let r = told-first ok bound t e in
         true≢false (sym (f t (omega (arith, r .high)) (r .passes)) ∙ told-none ok′ bound k t (r .low) (omega (arith, r .high)))
 
--- less to do at the same periods
-need-less : (own own′ : ℕ) (period period′ charge charge′ : ℕ → ℕ) (n t : ℕ) → own′ ≤ own
-    → ((j : ℕ) → j < n → (period′ j ≡ period j) × (charge′ j ≤ charge j))
-    → need own′ period′ charge′ n t ≤ need own period charge n t
-unfolding need
-need-less own own′ period period′ charge charge′ zero t h f = h
-need-less own own′ period period′ charge charge′ (suc n) t h f =
-    let last = f n (omega arith) in
-    add-le-add (need-less own own′ period period′ charge charge′ n t h (λ j l. f j (omega arith)))
-    (rw (last .0) (mul-le-mul-left (arrivals t (period n)) (last .1)))
-
--- Lower costs, a lower reload and smaller overlaps never make a task's time later, where periods and its deadline stay.
+-- Lower costs, a lower reload and fewer colours reloaded never make a task's time later, where periods and its deadline stay.
 pub less-is-no-later :
     (p q reload reload′ : ℕ) (part part′ : List ℕ) (i : ℕ) → deadline part i ≡ deadline part′ i → reload′ ≤ reload → cost part′ i ≤ cost part i
-    → ((j : ℕ) → j < i → (taskPeriod part′ j ≡ taskPeriod part j) × (cost part′ j ≤ cost part j) × (colours-shared part′ i j ≤ colours-shared part i j))
+    → ((j : ℕ) → j < i → (taskPeriod part′ j ≡ taskPeriod part j) × (cost part′ j ≤ cost part j) × (reloaded part′ i j ≤ reloaded part i j))
     → NoLater (timeInPart p q reload part i) (timeInPart p q reload′ part′ i)
 unfolding timeInPart taskNeed charge
 less-is-no-later p q reload reload′ part part′ i due less own f =
@@ -93,15 +84,6 @@ budget-is-no-later p q q′ reload part i b le within =
     no-later (λ (t : ℕ). leb (taskNeed reload part i t) (supply p q t)) (λ (t : ℕ). leb (taskNeed reload part i t) (supply p q′ t)) (deadline part i)
     (λ t h e. le-leb _ _ (le-trans (leb-true _ _ e) (supply-budget p q q′ t b le within)))
 
--- the same at each row
-need-same : (own : ℕ) (period period′ charge charge′ : ℕ → ℕ) (n t : ℕ) → ((j : ℕ) → j < n → (period′ j ≡ period j) × (charge′ j ≡ charge j))
-    → need own period′ charge′ n t ≡ need own period charge n t
-unfolding need
-need-same own period period′ charge charge′ zero t f = refl
-need-same own period period′ charge charge′ (suc n) t f =
-    let last = f n (omega arith) in
-    rw (need-same own period period′ charge charge′ n t (λ j l. f j (omega arith)), last .0, last .1)
-
 -- A task added at the end, whatever words come after the rows up to task i, changes nothing in its time.
 module _ (part more : List ℕ) (i : ℕ) (whole : 20 * i + 20 ≤ length part) where
   word-stays : (j k : ℕ) → j ≤ i → k < 20 → taskWord (part ++ more) j k ≡ taskWord part j k
@@ -110,16 +92,26 @@ module _ (part more : List ℕ) (i : ℕ) (whole : 20 * i + 20 ≤ length part) 
   set-stays : (j : ℕ) → j ≤ i → colourSet (part ++ more) j ≡ colourSet part j
   set-stays j h = word-stays j 3 h (omega arith)
 
+  -- the union of the sets of rows up to task i
+  held-stays : (n k : ℕ) → k + n ≤ i + 1 → heldFrom (part ++ more) k n ≡ heldFrom part k n
+  unfolding heldFrom
+  held-stays zero k h = refl
+  held-stays (suc n) k h = rw (set-stays k (omega arith), held-stays n (suc k) (omega arith))
+
+  reloaded-stays : (j : ℕ) → j < i → reloaded (part ++ more) i j ≡ reloaded part i j
+  unfolding reloaded reloadedSet
+  reloaded-stays j h = rw (set-stays j (omega arith), held-stays (i - j) (suc j) (omega arith))
+
   pub later-tasks-change-nothing : (p q reload : ℕ) → ((j : ℕ) → j ≤ i → ones (colourSet part j) ≤ 16)
       → timeInPart p q reload (part ++ more) i ≡ timeInPart p q reload part i
-  unfolding timeInPart taskNeed charge cost colours-shared
+  unfolding timeInPart taskNeed charge cost
   later-tasks-change-nothing p q reload few =
       let costs : (j : ℕ) → j ≤ i → cost (part ++ more) j ≡ cost part j = λ j h.
       rw (set-stays j h) (word-stays j (3 + ones (colourSet part j)) h (omega (arith, few j h))) in
       let needs : (t : ℕ) → taskNeed reload (part ++ more) i t ≡ taskNeed reload part i t = λ t.
       rw (costs i (le-refl i))
       (need-same (cost part i) (taskPeriod part) (taskPeriod (part ++ more)) (charge reload part i) (charge reload (part ++ more) i) i t
-      (λ j l. (word-stays j 1 (omega arith) (omega arith), rw (costs j (omega arith), set-stays j (omega arith), set-stays i (le-refl i))))) in
+      (λ j l. (word-stays j 1 (omega arith) (omega arith), rw (costs j (omega arith), reloaded-stays j l)))) in
       first-same (λ (t : ℕ). leb (taskNeed reload (part ++ more) i t) (supply p q t)) (λ (t : ℕ). leb (taskNeed reload part i t) (supply p q t)) (deadline (part ++ more) i)
       (λ t. ap (λ (x : ℕ). leb x (supply p q t)) (needs t))
       ∙ ap (firstTime (λ (t : ℕ). leb (taskNeed reload part i t) (supply p q t))) (word-stays i 2 (le-refl i) (omega arith))

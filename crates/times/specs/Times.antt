@@ -1,10 +1,11 @@
--- Need, task time and VCPU time: document 01, "Plans". A task's rows are those of its VCPU's part, a VCPU's those of the whole list.
+-- Need, task time and VCPU time: document 01, "Plans", with document 02, No. 3. A task's rows are those of its VCPU's part, a VCPU's those of the whole list.
 use Prim.Native.Nat.{ℕ, zero, suc, _+_, _-_, _*_, _/_}
 use mathlib.Core.List.{List}
 use lib.Dec.{eqb, leb}
 use Rattle.lists.specs.Choice.{if_then_else_}
 use Rattle.supply.specs.Supply.{supply}
-use Rattle.rows.specs.RowWords.{core, vcpuPeriod, budget, vcpuOf, taskPeriod, deadline, cost, colours-shared}
+use Rattle.rows.specs.RowWords.{core, vcpuPeriod, budget, vcpuOf, taskPeriod, deadline, cost}
+use Rattle.rows.specs.Reload.{charge}
 use Rattle.rows.specs.Part.{partStart, partOf}
 use Rattle.times.specs.First.{Time, firstTime}
 
@@ -17,11 +18,7 @@ unfoldable pub need : ℕ → (ℕ → ℕ) → (ℕ → ℕ) → ℕ → ℕ �
 need own period charge zero t = own
 need own period charge (suc j) t = need own period charge j t + arrivals t (period j) * charge j
 
--- an arrival of task j charges task i its cost and the reload of each colour that both hold
-unfoldable pub charge : ℕ → List ℕ → ℕ → ℕ → ℕ
-charge reload part i j = cost part j + reload * colours-shared part i j
-
--- the need of task i of a part in t
+-- the need of task i of a part in t: an arrival of an earlier task charges its cost and the reload that it causes (document 02, No. 3)
 unfoldable pub taskNeed : ℕ → List ℕ → ℕ → ℕ → ℕ
 taskNeed reload part i t = need (cost part i) (taskPeriod part) (charge reload part i) i t
 

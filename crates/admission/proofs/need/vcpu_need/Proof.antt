@@ -10,6 +10,7 @@ use Rattle.rows.specs.RowWords.{core, vcpuPeriod, budget}
 use Rattle.times.specs.Times.{arrivals, need, vcpuCharge, vcpuNeed}
 use Rattle.times.proofs.Needs.{need-next}
 use Rattle.times.proofs.Bounds.{vcpu-need-le}
+use borrow.Author.Needs.{needs}
 use Rattle.admission.proofs.need.vcpu_need.Statement.{statement}
 use Rattle.admission.proofs.need.vcpu_need.Tie as tie
 
@@ -23,24 +24,24 @@ abbrev μ-loop : tie.MeasureT-loop
 abbrev entry : tie.In-loop Inv-loop μ-loop → tie.Start Inv-loop μ-loop
 entry c = c .before .before .before .before .before
 
-abbrev turn : tie.After-vcpu-at3 Inv-loop μ-loop → tie.In-loop Inv-loop μ-loop
+abbrev turn : tie.After-vcpu-word3 Inv-loop μ-loop → tie.In-loop Inv-loop μ-loop
 turn c = c .before
 
-vcpu-at-requires : tie.Need-vcpu-at-requires Inv-loop μ-loop
-vcpu-at-requires c κs = omega arith
+vcpu-word-requires : tie.Need-vcpu-word-requires Inv-loop μ-loop
+vcpu-word-requires c κs = search needs
 
-vcpu-at-requires-2 : tie.Need-vcpu-at-requires-2 Inv-loop μ-loop
-vcpu-at-requires-2 c κs = omega arith
+vcpu-word-requires-2 : tie.Need-vcpu-word-requires-2 Inv-loop μ-loop
+vcpu-word-requires-2 c κs = search needs
 
 cast-sum : tie.Need-cast-sum Inv-loop μ-loop
-cast-sum c = omega (arith, c .vcpu-at2 .ok)
+cast-sum c = omega (arith, c .vcpu-word2 .ok)
 
 loop-holds : tie.Need-loop-holds Inv-loop μ-loop
 unfolding need
-loop-holds c = (omega arith, c .vcpu-at2 .ensures)
+loop-holds c = (omega arith, c .vcpu-word2 .ensures)
 
-vcpu-at-requires-3 : tie.Need-vcpu-at-requires-3 Inv-loop μ-loop
-vcpu-at-requires-3 c κs = omega arith
+vcpu-word-requires-3 : tie.Need-vcpu-word-requires-3 Inv-loop μ-loop
+vcpu-word-requires-3 c κs = search needs
 
 vcpu-charges-requires : tie.Need-vcpu-charges-requires Inv-loop μ-loop
 vcpu-charges-requires c κs = let s = entry (turn (c .before)) in (s .pre .0, s .pre .1, omega arith)
@@ -66,7 +67,7 @@ next c =
     let d = turn (c .before .before) in
     let a = entry d .args in
     let h = d .before .loop in
-    let same = sym (c .before .before .vcpu-at3 .ensures) ∙ c .before .if1 .taken ∙ d .before .before .before .vcpu-at .ensures in
+    let same = sym (c .before .before .vcpu-word3 .ensures) ∙ c .before .if1 .taken ∙ d .before .before .before .vcpu-word .ensures in
     ap₂ (λ (x y : ℕ). x + y) (h .inv .1) (c .vcpu-charges .ensures) ∙ sym (same-core (a .vcpus .now) (a .i) (h .j) (a .t) same)
 
 add-sum : tie.Need-add-sum Inv-loop μ-loop
@@ -86,8 +87,8 @@ loop-again c =
     let d = turn (c .before) in
     let a = entry d .args in
     let h = d .before .loop in
-    let here = c .before .vcpu-at3 .ensures in
-    let own = d .before .before .before .vcpu-at .ensures in (
+    let here = c .before .vcpu-word3 .ensures in
+    let own = d .before .before .before .vcpu-word .ensures in (
       omega arith,
       ⊎-elim
           (λ w. w .2 ∙ ap₂ (λ (x y : ℕ). x + y) (h .inv .1) (w .1 .ensures) ∙ sym (same-core (a .vcpus .now) (a .i) (h .j) (a .t) (sym here ∙ w .0 .taken ∙ own)))
@@ -109,11 +110,11 @@ vcpu-need-spec =
     (tie.spec
     Inv-loop
     μ-loop
-    vcpu-at-requires
-    vcpu-at-requires-2
+    vcpu-word-requires
+    vcpu-word-requires-2
     cast-sum
     loop-holds
-    vcpu-at-requires-3
+    vcpu-word-requires-3
     vcpu-charges-requires
     add-sum
     add-j

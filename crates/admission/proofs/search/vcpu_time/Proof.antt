@@ -6,6 +6,7 @@ use Rattle.rows.specs.RowWords.{vcpuPeriod}
 use Rattle.times.specs.Times.{vcpuNeed, vcpuTime}
 use Rattle.times.proofs.Search.{Searchable, Before, before-one, next, found, missed}
 use Rattle.times.proofs.Bounds.{vcpu-search}
+use borrow.Author.Needs.{needs}
 use Rattle.admission.proofs.search.vcpu_time.Statement.{statement}
 use Rattle.admission.proofs.search.vcpu_time.Tie as tie
 
@@ -29,14 +30,14 @@ search-of c = vcpu-search (c .args .vcpus .now) (c .args .i) (c .pre .0) (c .pre
 due-le : (c : tie.In-loop Inv-loop μ-loop) → vcpuPeriod (entry c .args .vcpus .now) (entry c .args .i) ≤ 1000000
 due-le c = let s = entry c in s .pre .0 .row (s .args .i) (s .pre .1) .period-high
 
-vcpu-at-requires : tie.Need-vcpu-at-requires Inv-loop μ-loop
-vcpu-at-requires c κs = omega arith
+vcpu-word-requires : tie.Need-vcpu-word-requires Inv-loop μ-loop
+vcpu-word-requires c κs = search needs
 
 cast-due : tie.Need-cast-due Inv-loop μ-loop
-cast-due c = omega (arith, c .vcpu-at .ok)
+cast-due c = omega (arith, c .vcpu-word .ok)
 
 loop-holds : tie.Need-loop-holds Inv-loop μ-loop
-loop-holds c = (omega arith, c .vcpu-at .ensures, before-one (search-of (c .before .before)))
+loop-holds c = (omega arith, c .vcpu-word .ensures, before-one (search-of (c .before .before)))
 
 cast-vcpu-need : tie.Need-cast-vcpu-need Inv-loop μ-loop
 cast-vcpu-need c = omega (arith, due-le c, c .before .loop .inv .1)
@@ -77,7 +78,7 @@ vcpu-time-spec =
     (tie.spec
     Inv-loop
     μ-loop
-    vcpu-at-requires
+    vcpu-word-requires
     cast-due
     loop-holds
     cast-vcpu-need

@@ -1,0 +1,80 @@
+-- `rows::arrival::charges` meets its contract, by the laws of going down from row i (`Charging`).
+use Prim.Native.Nat.{ℕ, _+_, _-_, _≤_, _<_}
+use native.Mathlib.Omega.{arith}
+use mathlib.Core.Path.{_≡_}
+use borrow.Author.Needs.{needs}
+use Rattle.rows.proofs.Charging.{Charging, charging-start, charging-next, charging-end, charges-none}
+use Rattle.rows.proofs.arrival.charges.Statement.{statement}
+use Rattle.rows.proofs.arrival.charges.Tie as tie
+
+abbrev Inv-loop : tie.InvT-loop
+Inv-loop reload tasks i found₀ held₀ j₀ found held j = Charging reload tasks i held j found
+
+abbrev μ-loop : tie.MeasureT-loop
+μ-loop reload tasks i found₀ held₀ j₀ found held j = j
+
+-- the places: the entry and the turn of the loop
+abbrev entry : tie.In-loop Inv-loop μ-loop → tie.Start Inv-loop μ-loop
+entry c = c .before .before .before .before .before
+
+abbrev turn : tie.After-charge Inv-loop μ-loop → tie.In-loop Inv-loop μ-loop
+turn c = c .before
+
+returns : tie.Need-returns Inv-loop μ-loop
+returns c = let a = c .before .before .args in charges-none (a .reload) (a .tasks .now) (a .i) (c .if1 .taken)
+
+task-word-requires : tie.Need-task-word-requires Inv-loop μ-loop
+task-word-requires c κs = search needs
+
+loop-holds : tie.Need-loop-holds Inv-loop μ-loop
+loop-holds c = let a = c .before .before .before .args in charging-start (a .reload) (a .tasks .now) (a .i) _ (c .task-word .ensures) (omega arith)
+
+sub-j : tie.Need-sub-j Inv-loop μ-loop
+sub-j c = omega arith
+
+cast-k : tie.Need-cast-k Inv-loop μ-loop
+cast-k c = omega arith
+
+charge-requires : tie.Need-charge-requires Inv-loop μ-loop
+charge-requires c κs = search needs
+
+mul-found : tie.Need-mul-found Inv-loop μ-loop
+mul-found c = omega arith
+
+array-write-found : tie.Need-array-write-found Inv-loop μ-loop
+array-write-found c = omega arith
+
+task-word-requires-2 : tie.Need-task-word-requires-2 Inv-loop μ-loop
+task-word-requires-2 c κs = search needs
+
+loop-less : tie.Need-loop-less Inv-loop μ-loop
+loop-less c = omega arith
+
+loop-again : tie.Need-loop-again Inv-loop μ-loop
+loop-again c =
+    let d = turn (c .before) in
+    let a = entry d .args in
+    let h = d .before .loop in
+    rw (c .task-word2 .ensures) (charging-next (a .reload) (a .tasks .now) (a .i) (h .inv) (h .j - 1) (c .before .charge .result) (omega arith) (c .before .charge .ensures))
+
+returns-2 : tie.Need-returns-2 Inv-loop μ-loop
+returns-2 c = let a = c .before .before .before .before .before .args in charging-end (a .reload) (a .tasks .now) (a .i) (c .before .loop .inv) (omega arith)
+
+pub charges-spec : {M : Type 1} → statement M
+charges-spec =
+    tie.close
+    (tie.spec
+    Inv-loop
+    μ-loop
+    returns
+    task-word-requires
+    loop-holds
+    sub-j
+    cast-k
+    charge-requires
+    mul-found
+    array-write-found
+    task-word-requires-2
+    loop-less
+    loop-again
+    returns-2)
