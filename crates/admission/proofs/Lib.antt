@@ -1,5 +1,6 @@
 -- The laws of `admission`.
 pub mod Admits
 pub mod Fit
+pub mod OnCore
 pub mod Timing
 pub mod Written

@@ -1,4 +1,6 @@
--- The definitions of `admission`: its reply and the list of times afterwards, and what its loops over the rows find.
+-- The definitions of `admission`: its reply and the list of times afterwards, what a search keeps of earlier rows, and what the loops
+-- over the rows find.
 pub mod Admission
 pub mod Paper
 pub mod Timed
+pub mod Earlier

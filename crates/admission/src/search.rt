@@ -7,11 +7,14 @@ ghost use Rattle.times.specs.Times.{timeInPart, vcpuTime as vcpuTimeOf};
 ghost use Rattle.rows.specs.RowWords.{vcpuRows, taskRows};
 ghost use Rattle.rows.specs.Valid.{Tasks, Vcpus};
 ghost use Rattle.admission.specs.Paper.{paperFound};
+use crate::need::core_rows;
 use crate::need::task_need;
 use crate::need::vcpu_need;
 use rows::TASK_DEADLINE;
+use rows::VCPU_BUDGET;
 use rows::VCPU_PERIOD;
 use rows::charges;
+use rows::cost;
 use rows::task_word;
 use rows::vcpu_word;
 
@@ -38,10 +41,11 @@ pub(crate) fn time_in_part(period: u32, budget: u32, reload: u32, part: &[u32], 
     ensures { λ r. ⌜ paperFound r ≡ timeInPart period budget reload (now (part .entry)) i ⌝ }
 {
     let due = task_word(part, i, TASK_DEADLINE) as u64;
+    let own = cost(part, i);
     let charged = charges(reload, part, i);
     let mut t: u64 = 1;
     while t <= due {
-        let need = task_need(part, i, &charged, t as u32);
+        let need = task_need(own, part, i, &charged, t as u32);
         if due < need {
             return Found::Late;
         }
@@ -60,9 +64,14 @@ pub(crate) fn vcpu_time(vcpus: &[u32], i: u32) -> Found
     ensures { λ r. ⌜ paperFound r ≡ vcpuTimeOf (now (vcpus .entry)) i ⌝ }
 {
     let due = vcpu_word(vcpus, i, VCPU_PERIOD) as u64;
+    let own = vcpu_word(vcpus, i, VCPU_BUDGET);
+    let earlier = core_rows(vcpus, i);
+    let count = earlier.count;
+    let periods = earlier.periods;
+    let budgets = earlier.budgets;
     let mut t: u64 = 1;
     while t <= due {
-        let need = vcpu_need(vcpus, i, t as u32);
+        let need = vcpu_need(own, &periods, &budgets, count, t as u32);
         if need <= t {
             return Found::At(t as u32);
         }

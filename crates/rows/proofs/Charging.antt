@@ -15,7 +15,7 @@ use Rattle.lists.specs.Range.{upto}
 use Rattle.lists.proofs.Split.{below-or-not}
 use Rattle.lists.proofs.Written.{length-table, table-entry}
 use Rattle.rows.specs.RowWords.{colourSet, cost}
-use Rattle.rows.specs.Reload.{heldFrom, reloadedSet, reloaded, charge, charges}
+use Rattle.rows.specs.Reload.{heldFrom, reloadedSet, reloaded, charge, plannedRow, charges}
 
 -- no charge is written yet
 abbrev none : List ℕ
@@ -24,29 +24,38 @@ none = replicate 32 0
 none-yet : (k : ℕ) → getD none k 0 ≡ 0
 none-yet k = below-or-not k 32 (λ l. getD-replicate 32 k 0 0 l) (λ l. List·getD-eq-default none 0 l)
 
+planned-low : (i : ℕ) → plannedRow i < 32
+unfolding plannedRow
+planned-low i = below-or-not i 32 (λ l. rw (lt-ltb i 32 l) l) (λ l. rw (le-ltb i 32 l) (omega arith))
+
+planned-is : (i : ℕ) → i < 32 → plannedRow i ≡ i
+unfolding plannedRow
+planned-is i l = rw (lt-ltb i 32 l)
+
 module _ (reload : ℕ) (tasks : List ℕ) (i : ℕ) where
+  abbrev row : ℕ
+  row = plannedRow i
+
   -- the rows from j on are passed
   pub record Charging (held j : ℕ) (found : List ℕ) : Type 0 where
-    pub down : j ≤ i
-    pub few : i < 32
-    pub union : held ≡ heldFrom tasks j (suc (i - j))
+    pub down : j ≤ row
+    pub few : row < 32
+    pub union : held ≡ heldFrom tasks j (suc (row - j))
     pub room : length found ≡ 32
-    pub passed : (k : ℕ) → j ≤ k → k < i → getD found k 0 ≡ charge reload tasks i k
-    pub ahead : (k : ℕ) → k < j → getD found k 0 ≡ 0
-    pub past : (k : ℕ) → i ≤ k → getD found k 0 ≡ 0
+    pub passed : (k : ℕ) → j ≤ k → k < row → getD found k 0 ≡ charge reload tasks row k
+    pub rest : (k : ℕ) → row ≤ k → getD found k 0 ≡ 0
 
-  pub charging-start : (held : ℕ) → held ≡ colourSet tasks i → i < 32 → Charging held i none
+  pub charging-start : (held j : ℕ) → j ≡ row → held ≡ colourSet tasks j → Charging held j none
   unfolding heldFrom
-  charging-start held e h =
-      let one : suc (i - i) ≡ 1 = omega arith in
+  charging-start held j at e =
+      let one : suc (row - j) ≡ 1 = omega arith in
       record {
-        down = le-refl i;
-        few = h;
-        union = e ∙ sym (ap (heldFrom tasks i) one ∙ or-zero-r (colourSet tasks i));
+        down = omega arith;
+        few = planned-low i;
+        union = e ∙ sym (ap (heldFrom tasks j) one ∙ or-zero-r (colourSet tasks j));
         room = refl;
         passed = λ k a b. absurd (lt-irrefl k (omega arith));
-        ahead = λ k l. none-yet k;
-        past = λ k l. none-yet k;
+        rest = λ k l. none-yet k;
       }
 
   pub charging-next : {held j : ℕ} {found : List ℕ} → Charging held j found → (m x : ℕ) → m + 1 ≡ j
@@ -54,8 +63,8 @@ module _ (reload : ℕ) (tasks : List ℕ) (i : ℕ) where
   unfolding heldFrom charge reloaded reloadedSet
   charging-next {held} {j} {found} c m x e is =
       let first : j ≡ suc m = omega arith in
-      let many : suc (i - j) ≡ i - m = omega (arith, c .down) in
-      let held-is : held ≡ heldFrom tasks (suc m) (i - m) = c .union ∙ ap₂ (heldFrom tasks) first many in
+      let many : suc (row - j) ≡ row - m = omega (arith, c .down) in
+      let held-is : held ≡ heldFrom tasks (suc m) (row - m) = c .union ∙ ap₂ (heldFrom tasks) first many in
       let other : (k : ℕ) → (k ≡ m → ⊥) → getD (set found m x) k 0 ≡ getD found k 0 = λ k n. getD-set-other found m k x 0 n in
       record {
         down = omega (arith, c .down);
@@ -66,34 +75,19 @@ module _ (reload : ℕ) (tasks : List ℕ) (i : ℕ) where
             below-or-not m k
             (λ l. other k (λ q. lt-irrefl k (omega arith)) ∙ c .passed k (omega arith) b)
             (λ l. let same : k ≡ m = omega arith in rw same (getD-set-same found m x 0 (omega (arith, c .room, c .down, c .few)) ∙ is ∙ rw held-is refl));
-        ahead = λ k l. other k (λ q. lt-irrefl k (omega arith)) ∙ c .ahead k (omega arith);
-        past = λ k l. other k (λ q. lt-irrefl k (omega (arith, c .down))) ∙ c .past k l;
+        rest = λ k l. other k (λ q. lt-irrefl k (omega (arith, c .down))) ∙ c .rest k l;
       }
 
-  -- the charges that are kept: those of the rows before row i, and nothing past them
+  pub charging-end : {held j : ℕ} {found : List ℕ} → Charging held j found → j ≤ 0 → found ≡ charges reload tasks i
+  unfolding charges
+  charging-end {held} {j} {found} c z =
+      ext-getD 0 found _ (c .room ∙ sym (length-table _ 32 0))
+      (λ k l.
+      below-or-not k row
+      (λ h. c .passed k (omega arith) h ∙ sym (table-entry _ 32 0 k (omega (arith, c .room)) ∙ rw (zero-add k, lt-ltb k row h) refl))
+      (λ h. c .rest k h ∙ sym (table-entry _ 32 0 k (omega (arith, c .room)) ∙ rw (zero-add k, le-ltb k row h) refl)))
+
+  -- the charge of a row before row i
   pub charge-kept : i < 32 → (k : ℕ) → k < i → getD (charges reload tasks i) k 0 ≡ charge reload tasks i k
   unfolding charges
-  charge-kept few k h = table-entry _ 32 0 k (omega arith) ∙ rw (zero-add k, lt-ltb i 32 few, lt-ltb k i h) refl
-
-  nothing-past : i < 32 → (k : ℕ) → i ≤ k → k < 32 → getD (charges reload tasks i) k 0 ≡ 0
-  unfolding charges
-  nothing-past few k h l = table-entry _ 32 0 k l ∙ rw (zero-add k, lt-ltb i 32 few, le-ltb k i h) refl
-
-  kept-length : length (charges reload tasks i) ≡ 32
-  unfolding charges
-  kept-length = length-table _ 32 0
-
-  pub charging-end : {held j : ℕ} {found : List ℕ} → Charging held j found → j ≤ 0 → found ≡ charges reload tasks i
-  charging-end {held} {j} {found} c z =
-      ext-getD 0 found _ (c .room ∙ sym kept-length)
-      (λ k l.
-      below-or-not k i
-      (λ h. c .passed k (omega arith) h ∙ sym (charge-kept (c .few) k h))
-      (λ h. c .past k h ∙ sym (nothing-past (c .few) k h (omega (arith, c .room)))))
-
-  -- a row past the 32nd
-  pub charges-none : 32 ≤ i → none ≡ charges reload tasks i
-  unfolding charges
-  charges-none h =
-      ext-getD 0 none _ (sym (length-table _ 32 0))
-      (λ k l. none-yet k ∙ sym (table-entry _ 32 0 k l ∙ rw (le-ltb i 32 h) refl))
+  charge-kept few k h = table-entry _ 32 0 k (omega arith) ∙ rw (zero-add k, planned-is i few, lt-ltb k i h) refl

@@ -1,7 +1,6 @@
 -- What an arrival of an earlier task charges a task: its cost and the reload of colours. Document 02, No. 3, which is equation (3) of document
 -- 000: of the colours that the arriving task holds, those that the task in question or a task ranked between the two holds, each once.
 use Prim.Native.Nat.{ℕ, zero, suc, _+_, _-_, _*_}
-use mathlib.Core.Bool.{_&&_}
 use mathlib.Core.List.{List, map}
 use lib.Bits.{bitAnd, bitOr}
 use lib.Count.{ones}
@@ -27,6 +26,12 @@ reloaded tasks i j = ones (reloadedSet tasks i j)
 unfoldable pub charge : ℕ → List ℕ → ℕ → ℕ → ℕ
 charge reload tasks i j = cost tasks j + reload * reloaded tasks i j
 
+-- a row that a plan may have, or row 0, which no row comes before
+unfoldable pub plannedRow : ℕ → ℕ
+plannedRow i = if ltb i 32 then i else 0
+
 -- the charges of the rows before row i, in 32 numbers, 0 past them; a row past the 32nd, of which a plan has none, has no charges
 unfoldable pub charges : ℕ → List ℕ → ℕ → List ℕ
-charges reload tasks i = map (λ (j : ℕ). if ltb i 32 && ltb j i then charge reload tasks i j else 0) (upto 32)
+charges reload tasks i =
+    let row = plannedRow i in
+    map (λ (j : ℕ). if ltb j row then charge reload tasks row j else 0) (upto 32)

@@ -5,7 +5,7 @@ ghost use Prim.Native.Nat.{_+_, _*_};
 ghost use lib.Bits.{bitAnd};
 ghost use lib.Count.{ones};
 ghost use Rattle.rows.specs.RowWords.{colourSet, cost as costOf};
-ghost use Rattle.rows.specs.Reload.{charges as chargesOf};
+ghost use Rattle.rows.specs.Reload.{plannedRow, charges as chargesOf};
 use crate::TASK_SET;
 use crate::words::cost;
 use crate::words::task_word;
@@ -19,16 +19,20 @@ fn charge(reload: u32, tasks: &[u32], row: u32, held: u32) -> u64
     cost(tasks, row) as u64 + reload as u64 * (reloaded as u64)
 }
 
+// A row that a plan may have, or row 0, which no row comes before.
+fn planned(i: u32) -> u32
+    ensures { λ r. ⌜ r ≡ plannedRow i ⌝ }
+{
+    if i < 32 { i } else { 0 }
+}
+
 // The charges of the rows before row i; 0 past them, and for a row past the 32nd.
 pub fn charges(reload: u32, tasks: &[u32], i: u32) -> [u64; 32]
     ensures { λ r. ⌜ r ≡ chargesOf reload (now (tasks .entry)) i ⌝ }
 {
     let mut found = [0u64; 32];
-    if 32 <= i {
-        return found;
-    }
-    let mut held = task_word(tasks, i, TASK_SET);
-    let mut j = i;
+    let mut j = planned(i);
+    let mut held = task_word(tasks, j, TASK_SET);
     while 0 < j {
         j -= 1;
         let k = j as usize;

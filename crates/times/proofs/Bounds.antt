@@ -1,4 +1,4 @@
--- Tasks and VCPUs: the bounds of their charges and needs, and that the search serves both.
+-- Tasks and VCPUs: the bounds of charges and needs, what a search keeps, and that the search serves both.
 use Prim.Native.Nat.{ℕ, suc, _+_, _-_, _*_, _/_, _%_, _<_, _≤_}
 use native.Mathlib.Nat.{le-refl, le-trans, mul-le-mul, mul-le-mul-left, mul-le-mul-right}
 use native.Mathlib.Omega.{arith}
@@ -38,24 +38,25 @@ pub charge-le : (reload : ℕ) (part : List ℕ) (i j : ℕ) → reload ≤ 1000
 unfolding charge
 charge-le reload part i j h r = omega (arith, r .cost-high, mul-le-mul h (reloaded-le part i j r))
 
--- the charges that a search keeps are these, and give the need
-pub kept-le : (reload : ℕ) (part : List ℕ) (i : ℕ) → reload ≤ 10000 → Tasks part → i < taskRows part → (j : ℕ) → j < i → getD (charges reload part i) j 0 ≤ 1160000
-kept-le reload part i h rows here j l =
-    rw (charge-kept reload part i (omega (arith, rows .few)) j l) (charge-le reload part i j h (rows .row j (omega arith)))
+-- a need over 32 rows at most, with charges of at most 1,160,000, fits in 64 bits
+pub need-fits : (own : ℕ) (period charged : ℕ → ℕ) (m n t : ℕ) → own ≤ 1000000 → t ≤ 1000000 → m ≤ n → n ≤ 32 → ((j : ℕ) → j < n → charged j ≤ 1160000)
+    → need own period charged m t ≤ 38000000000000
+need-fits own period charged m n t ho ht hm hn few =
+    let b = need-le own period charged 1160000 m t (λ j k. few j (omega arith)) in
+    omega (arith, b, mul-le-mul-left m (mul-le-mul-right 1160000 ht))
 
-pub kept-need : (reload : ℕ) (part : List ℕ) (i t : ℕ) → i < 32
-    → need (cost part i) (taskPeriod part) (λ (j : ℕ). getD (charges reload part i) j 0) i t ≡ taskNeed reload part i t
-unfolding taskNeed
-kept-need reload part i t few =
-    need-same (cost part i) (taskPeriod part) (taskPeriod part) (charge reload part i) (λ (j : ℕ). getD (charges reload part i) j 0) i t
-    (λ j l. (refl, charge-kept reload part i few j l))
+-- what a search of a task keeps, its cost and the charges of the rows before it, gives its need
+module _ (reload : ℕ) (part : List ℕ) (i own : ℕ) (charged : List ℕ) (own-is : own ≡ cost part i) (charged-is : charged ≡ charges reload part i) where
+  pub kept-le : reload ≤ 10000 → Tasks part → i < taskRows part → (j : ℕ) → j < i → getD charged j 0 ≤ 1160000
+  kept-le h rows here j l =
+      rw (charged-is, charge-kept reload part i (omega (arith, rows .few)) j l) (charge-le reload part i j h (rows .row j (omega arith)))
 
-pub task-need-le : (part : List ℕ) (charged : ℕ → ℕ) (i n t : ℕ) → Tasks part → i < taskRows part → n ≤ i → t ≤ 1000000 → ((j : ℕ) → j < i → charged j ≤ 1160000)
-    → need (cost part i) (taskPeriod part) charged n t ≤ 1000000 + n * 1160000000000
-task-need-le part charged i n t rows here l ht few =
-    let b = need-le (cost part i) (taskPeriod part) charged 1160000 n t (λ j k. few j (omega arith)) in
-    let m = mul-le-mul-left n (mul-le-mul-right 1160000 ht) in
-    omega (arith, b, m, rows .row i here .cost-high)
+  pub kept-need : (t : ℕ) → i < 32 → need own (taskPeriod part) (λ (j : ℕ). getD charged j 0) i t ≡ taskNeed reload part i t
+  unfolding taskNeed
+  kept-need t few =
+      rw (own-is, charged-is)
+      (need-same (cost part i) (taskPeriod part) (taskPeriod part) (charge reload part i) (λ (j : ℕ). getD (charges reload part i) j 0) i t
+      (λ j l. (refl, charge-kept reload part i few j l)))
 
 pub task-search : (p q reload : ℕ) (part : List ℕ) (i : ℕ) → Budget p q → Tasks part → i < taskRows part → Searchable (supply p q) (taskNeed reload part i) (firstSupply p q)
 unfolding taskNeed
@@ -67,19 +68,6 @@ task-search p q reload part i b rows here =
       mono = need-mono (cost part i) (taskPeriod part) (charge reload part i) i;
       some = λ t. le-trans (rows .row i here .cost-low) (own-le (cost part i) (taskPeriod part) (charge reload part i) i t);
     }
-
-pub vcpu-charge-le : (vcpus : List ℕ) (i j : ℕ) → VcpuRow vcpus j → vcpuCharge vcpus i j ≤ 1000000
-unfolding vcpuCharge
-vcpu-charge-le vcpus i j r =
-    cases (eqb (core vcpus j) (core vcpus i)) (λ e. rw e (omega (arith, r .budget-high, r .period-high))) (λ e. rw e (omega arith))
-
-pub vcpu-need-le : (vcpus : List ℕ) (i n t : ℕ) → Vcpus vcpus → i < vcpuRows vcpus → n ≤ i → t ≤ 1000000
-    → need (budget vcpus i) (vcpuPeriod vcpus) (vcpuCharge vcpus i) n t ≤ 1000000 + n * 1000000000000
-vcpu-need-le vcpus i n t rows here l ht =
-    let b = need-le (budget vcpus i) (vcpuPeriod vcpus) (vcpuCharge vcpus i) 1000000 n t (λ j k. vcpu-charge-le vcpus i j (rows .row j (omega arith))) in
-    let m = mul-le-mul-left n (mul-le-mul-right 1000000 ht) in
-    let r = rows .row i here in
-    omega (arith, b, m, r .budget-high, r .period-high)
 
 pub vcpu-search : (vcpus : List ℕ) (i : ℕ) → Vcpus vcpus → i < vcpuRows vcpus → Searchable (λ (t : ℕ). t) (vcpuNeed vcpus i) (λ (x : ℕ). x)
 unfolding vcpuNeed

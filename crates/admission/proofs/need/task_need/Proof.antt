@@ -2,47 +2,44 @@
 use Prim.Native.Nat.{ℕ, _+_, _-_, _*_, _<_, _≤_}
 use native.Mathlib.Omega.{arith}
 use mathlib.Core.List.{List}
-use mathlib.Core.Path.{_≡_, sym, ap, ap₂, _∙_}
+use mathlib.Core.Path.{_≡_, refl, sym, ap, ap₂, _∙_}
 use lib.ListN.{getD}
-use Rattle.rows.specs.RowWords.{taskPeriod, cost}
+use Rattle.rows.specs.RowWords.{taskPeriod}
 use Rattle.rows.specs.Valid.{TaskRow}
 use Rattle.times.specs.Times.{need}
 use Rattle.times.proofs.Needs.{need-next}
-use Rattle.times.proofs.Bounds.{task-need-le}
+use Rattle.times.proofs.Bounds.{need-fits}
 use borrow.Author.Needs.{needs}
 use Rattle.admission.proofs.need.task_need.Statement.{statement}
 use Rattle.admission.proofs.need.task_need.Tie as tie
 
 -- the need over the first n rows
-abbrev upto : List ℕ → ℕ → List ℕ → ℕ → ℕ → ℕ
-upto part i charges t n = need (cost part i) (taskPeriod part) (λ (j : ℕ). getD charges j 0) n t
+abbrev upto : ℕ → List ℕ → List ℕ → ℕ → ℕ → ℕ
+upto own part charges t n = need own (taskPeriod part) (λ (j : ℕ). getD charges j 0) n t
 
 abbrev Inv-loop : tie.InvT-loop
-Inv-loop part i charges t sum₀ j₀ sum j = (j ≤ i) × (sum ≡ upto part i charges t j)
+Inv-loop own part i charges t sum₀ j₀ sum j = (j ≤ i) × (sum ≡ upto own part charges t j)
 
 abbrev μ-loop : tie.MeasureT-loop
-μ-loop part i charges t sum₀ j₀ sum j = i - j
+μ-loop own part i charges t sum₀ j₀ sum j = i - j
 
 -- the places: the entry and the turn of the loop, and the turn after its last call
 abbrev entry : tie.In-loop Inv-loop μ-loop → tie.Start Inv-loop μ-loop
-entry c = c .before .before .before .before
+entry c = c .before .before .before
 
 abbrev turn : tie.After-arrivals Inv-loop μ-loop → tie.In-loop Inv-loop μ-loop
 turn c = c .before .before
 
 -- the row that the loop has come to
 row : (c : tie.In-loop Inv-loop μ-loop) → TaskRow (entry c .args .part .now) (c .before .loop .j)
-row c = entry c .pre .1 .row (c .before .loop .j) (omega arith)
+row c = entry c .pre .2 .row (c .before .loop .j) (omega (arith, entry c .pre .3))
 
-cost-requires : tie.Need-cost-requires Inv-loop μ-loop
-cost-requires c κs = search needs
-
-cast-sum : tie.Need-cast-sum Inv-loop μ-loop
-cast-sum c = omega (arith, c .cost .ok)
+below : (c : tie.In-loop Inv-loop μ-loop) → c .before .loop .j < 32
+below c = omega (arith, entry c .pre .2 .few, entry c .pre .3)
 
 loop-holds : tie.Need-loop-holds Inv-loop μ-loop
 unfolding need
-loop-holds c = (omega arith, c .cost .ensures)
+loop-holds c = (omega arith, refl)
 
 cast-k : tie.Need-cast-k Inv-loop μ-loop
 cast-k c = omega arith
@@ -53,10 +50,7 @@ task-word-requires c κs = search needs
 arrivals-requires : tie.Need-arrivals-requires Inv-loop μ-loop
 arrivals-requires c κs =
     let r = row (c .before) in
-    (entry (c .before) .pre .0, rw (c .task-word .ensures) (r .period-low), rw (c .task-word .ensures) (r .period-high))
-
-below : (c : tie.In-loop Inv-loop μ-loop) → c .before .loop .j < 32
-below c = omega (arith, entry c .pre .1 .few)
+    (entry (c .before) .pre .1, rw (c .task-word .ensures) (r .period-low), rw (c .task-word .ensures) (r .period-high))
 
 mul-sum : tie.Need-mul-sum Inv-loop μ-loop
 mul-sum c = omega (arith, below (turn c))
@@ -66,7 +60,7 @@ element-copy-out-sum c = below (turn c)
 
 -- the sum with one row more, and its bound
 next : (c : tie.After-arrivals Inv-loop μ-loop) → let a = entry (turn c) .args in let h = turn c .before .loop in
-    h .sum + c .arrivals .result * getD (a .charges .now) (h .j) 0 ≡ upto (a .part .now) (a .i) (a .charges .now) (a .t) (h .j + 1)
+    h .sum + c .arrivals .result * getD (a .charges .now) (h .j) 0 ≡ upto (a .own) (a .part .now) (a .charges .now) (a .t) (h .j + 1)
 next c =
     let h = turn c .before .loop in
     let term = rw (c .before .task-word .ensures) at (c .arrivals .ensures) in
@@ -77,8 +71,8 @@ next-le : (c : tie.After-arrivals Inv-loop μ-loop) → let a = entry (turn c) .
 next-le c =
     let s = entry (turn c) in
     let a = s .args in
-    let bound = task-need-le (a .part .now) (λ (j : ℕ). getD (a .charges .now) j 0) (a .i) (turn c .before .loop .j + 1) (a .t) (s .pre .1) (s .pre .2) (omega arith) (s .pre .0) (s .pre .3) in
-    omega (arith, next c, bound, s .pre .1 .few)
+    let bound = need-fits (a .own) (taskPeriod (a .part .now)) (λ (j : ℕ). getD (a .charges .now) j 0) (turn c .before .loop .j + 1) (a .i) (a .t) (s .pre .0) (s .pre .1) (omega arith) (omega (arith, s .pre .2 .few, s .pre .3)) (s .pre .4) in
+    omega (arith, next c, bound)
 
 mul-sum-2 : tie.Need-mul-sum-2 Inv-loop μ-loop
 mul-sum-2 c = omega (arith, next-le (c .before))
@@ -98,9 +92,9 @@ loop-again c = (omega arith, next (c .before))
 returns : tie.Need-returns Inv-loop μ-loop
 returns c =
     let h = c .before .loop in
-    let a = c .before .before .before .before .args in
+    let a = c .before .before .before .args in
     let all : h .j ≡ a .i = omega arith in
-    h .inv .1 ∙ ap (upto (a .part .now) (a .i) (a .charges .now) (a .t)) all
+    h .inv .1 ∙ ap (upto (a .own) (a .part .now) (a .charges .now) (a .t)) all
 
 pub task-need-spec : {M : Type 1} → statement M
 task-need-spec =
@@ -108,8 +102,6 @@ task-need-spec =
     (tie.spec
     Inv-loop
     μ-loop
-    cost-requires
-    cast-sum
     loop-holds
     cast-k
     task-word-requires

@@ -1,80 +1,87 @@
--- `admission::need::vcpu_need` meets its contract. The invariant: the sum is the need over the rows passed, which has a bound. A row of
--- another core adds its arrivals times 0.
-use Prim.Native.Nat.{ℕ, _+_, _-_, _*_, _≤_}
+-- `admission::need::vcpu_need` meets its contract. The invariant: the sum is the need over the entries passed, which has a bound.
+use Prim.Native.Nat.{ℕ, _+_, _-_, _*_, _<_, _≤_}
+use native.Mathlib.Nat.{le-trans}
 use native.Mathlib.Omega.{arith}
 use mathlib.Core.List.{List}
-use mathlib.Core.Logic.{⊎-elim}
-use mathlib.Core.Path.{_≡_, sym, ap, ap₂, _∙_}
-use borrow.Author.Tests.{eq-eqb, ne-eqb}
-use Rattle.rows.specs.RowWords.{core, vcpuPeriod, budget}
-use Rattle.times.specs.Times.{arrivals, need, vcpuCharge, vcpuNeed}
+use mathlib.Core.Path.{_≡_, refl, sym, ap, ap₂, _∙_}
+use lib.ListN.{getD}
+use Rattle.times.specs.Times.{need}
 use Rattle.times.proofs.Needs.{need-next}
-use Rattle.times.proofs.Bounds.{vcpu-need-le}
-use borrow.Author.Needs.{needs}
+use Rattle.times.proofs.Bounds.{need-fits}
+use Rattle.admission.specs.Earlier.{Within}
 use Rattle.admission.proofs.need.vcpu_need.Statement.{statement}
 use Rattle.admission.proofs.need.vcpu_need.Tie as tie
 
+-- the need over the first n entries
+abbrev upto : ℕ → List ℕ → List ℕ → ℕ → ℕ → ℕ
+upto own periods budgets t n = need own (λ (j : ℕ). getD periods j 0) (λ (j : ℕ). getD budgets j 0) n t
+
 abbrev Inv-loop : tie.InvT-loop
-Inv-loop vcpus i t core sum₀ j₀ sum j = (j ≤ i) × (sum ≡ need (budget vcpus i) (vcpuPeriod vcpus) (vcpuCharge vcpus i) j t)
+Inv-loop own periods budgets count t sum₀ j₀ sum j = (j ≤ count) × (sum ≡ upto own periods budgets t j)
 
 abbrev μ-loop : tie.MeasureT-loop
-μ-loop vcpus i t core sum₀ j₀ sum j = i - j
+μ-loop own periods budgets count t sum₀ j₀ sum j = count - j
 
 -- the places: the entry and the turn of the loop
 abbrev entry : tie.In-loop Inv-loop μ-loop → tie.Start Inv-loop μ-loop
-entry c = c .before .before .before .before .before
+entry c = c .before .before
 
-abbrev turn : tie.After-vcpu-word3 Inv-loop μ-loop → tie.In-loop Inv-loop μ-loop
-turn c = c .before
+abbrev turn : tie.After-arrivals Inv-loop μ-loop → tie.In-loop Inv-loop μ-loop
+turn c = c .before .before
 
-vcpu-word-requires : tie.Need-vcpu-word-requires Inv-loop μ-loop
-vcpu-word-requires c κs = search needs
+-- the entry that the loop has come to
+here : (c : tie.In-loop Inv-loop μ-loop) → Within (entry c .args .periods .now) (entry c .args .budgets .now) (c .before .loop .j)
+here c = entry c .pre .3 (c .before .loop .j) (omega arith)
 
-vcpu-word-requires-2 : tie.Need-vcpu-word-requires-2 Inv-loop μ-loop
-vcpu-word-requires-2 c κs = search needs
-
-cast-sum : tie.Need-cast-sum Inv-loop μ-loop
-cast-sum c = omega (arith, c .vcpu-word2 .ok)
+below : (c : tie.In-loop Inv-loop μ-loop) → c .before .loop .j < 16
+below c = omega (arith, entry c .pre .2)
 
 loop-holds : tie.Need-loop-holds Inv-loop μ-loop
 unfolding need
-loop-holds c = (omega arith, c .vcpu-word2 .ensures)
+loop-holds c = (omega arith, refl)
 
-vcpu-word-requires-3 : tie.Need-vcpu-word-requires-3 Inv-loop μ-loop
-vcpu-word-requires-3 c κs = search needs
+cast-k : tie.Need-cast-k Inv-loop μ-loop
+cast-k c = omega arith
 
-vcpu-charges-requires : tie.Need-vcpu-charges-requires Inv-loop μ-loop
-vcpu-charges-requires c κs = let s = entry (turn (c .before)) in (s .pre .0, s .pre .1, omega arith)
+mul-arrivals : tie.Need-mul-arrivals Inv-loop μ-loop
+mul-arrivals c = omega (arith, below c)
 
--- the need with one row more, of the same core or of another
-module _ (vcpus : List ℕ) (i j t : ℕ) where
-  abbrev upto : ℕ → ℕ
-  upto n = need (budget vcpus i) (vcpuPeriod vcpus) (vcpuCharge vcpus i) n t
+element-copy-out-arrivals : tie.Need-element-copy-out-arrivals Inv-loop μ-loop
+element-copy-out-arrivals c = below c
 
-  same-core : core vcpus j ≡ core vcpus i → upto (j + 1) ≡ upto j + arrivals t (vcpuPeriod vcpus j) * budget vcpus j
-  unfolding vcpuCharge
-  same-core e = rw (need-next (budget vcpus i) (vcpuPeriod vcpus) (vcpuCharge vcpus i) j t, eq-eqb (core vcpus j) (core vcpus i) e)
+arrivals-requires : tie.Need-arrivals-requires Inv-loop μ-loop
+arrivals-requires c κs = let r = here (c .before) in (entry (c .before) .pre .1, r .period-low, r .period-high)
 
-  other-core : (core vcpus j ≡ core vcpus i → ⊥) → upto (j + 1) ≡ upto j
-  unfolding vcpuCharge
-  other-core e =
-      need-next (budget vcpus i) (vcpuPeriod vcpus) (vcpuCharge vcpus i) j t ∙ rw (ne-eqb (core vcpus j) (core vcpus i) e) (omega arith)
+mul-sum : tie.Need-mul-sum Inv-loop μ-loop
+mul-sum c = omega (arith, below (turn c))
 
--- the sum with a row of the same core
-next : (c : tie.After-vcpu-charges Inv-loop μ-loop) → let d = turn (c .before .before) in let a = entry d .args in
-    d .before .loop .sum + c .vcpu-charges .result ≡ upto (a .vcpus .now) (a .i) (d .before .loop .j) (a .t) (d .before .loop .j + 1)
+element-copy-out-sum : tie.Need-element-copy-out-sum Inv-loop μ-loop
+element-copy-out-sum c = below (turn c)
+
+cast-sum : tie.Need-cast-sum Inv-loop μ-loop
+cast-sum c = omega (arith, here (turn (c .before)) .budget-high)
+
+-- the sum with one entry more, and its bound
+next : (c : tie.After-arrivals Inv-loop μ-loop) → let a = entry (turn c) .args in let h = turn c .before .loop in
+    h .sum + c .arrivals .result * getD (a .budgets .now) (h .j) 0 ≡ upto (a .own) (a .periods .now) (a .budgets .now) (a .t) (h .j + 1)
 next c =
-    let d = turn (c .before .before) in
-    let a = entry d .args in
-    let h = d .before .loop in
-    let same = sym (c .before .before .vcpu-word3 .ensures) ∙ c .before .if1 .taken ∙ d .before .before .before .vcpu-word .ensures in
-    ap₂ (λ (x y : ℕ). x + y) (h .inv .1) (c .vcpu-charges .ensures) ∙ sym (same-core (a .vcpus .now) (a .i) (h .j) (a .t) same)
+    let h = turn c .before .loop in
+    ap₂ (λ (x y : ℕ). x + y) (h .inv .1) (ap (λ (x : ℕ). x * getD (entry (turn c) .args .budgets .now) (h .j) 0) (c .arrivals .ensures)) ∙ sym (need-next _ _ _ (h .j) _)
+
+next-le : (c : tie.After-arrivals Inv-loop μ-loop) → let a = entry (turn c) .args in let h = turn c .before .loop in
+    h .sum + c .arrivals .result * getD (a .budgets .now) (h .j) 0 ≤ 38000000000000
+next-le c =
+    let s = entry (turn c) in
+    let a = s .args in
+    let few : (j : ℕ) → j < a .count → getD (a .budgets .now) j 0 ≤ 1160000 = λ j l. le-trans (s .pre .3 j l .budget-high) (omega arith) in
+    let bound = need-fits (a .own) (λ (j : ℕ). getD (a .periods .now) j 0) (λ (j : ℕ). getD (a .budgets .now) j 0) (turn c .before .loop .j + 1) (a .count) (a .t) (s .pre .0) (s .pre .1) (omega arith) (omega (arith, s .pre .2)) few in
+    omega (arith, next c, bound)
+
+mul-sum-2 : tie.Need-mul-sum-2 Inv-loop μ-loop
+mul-sum-2 c = omega (arith, next-le (c .before))
 
 add-sum : tie.Need-add-sum Inv-loop μ-loop
-add-sum c =
-    let d = turn (c .before .before) in
-    let s = entry d in
-    omega (arith, next c, s .pre .1 .few, vcpu-need-le (s .args .vcpus .now) (s .args .i) (d .before .loop .j + 1) (s .args .t) (s .pre .1) (s .pre .2) (omega arith) (s .pre .0))
+add-sum c = omega (arith, next-le (c .before))
 
 add-j : tie.Need-add-j Inv-loop μ-loop
 add-j c = omega arith
@@ -83,26 +90,14 @@ loop-less : tie.Need-loop-less Inv-loop μ-loop
 loop-less c = omega arith
 
 loop-again : tie.Need-loop-again Inv-loop μ-loop
-loop-again c =
-    let d = turn (c .before) in
-    let a = entry d .args in
-    let h = d .before .loop in
-    let here = c .before .vcpu-word3 .ensures in
-    let own = d .before .before .before .vcpu-word .ensures in (
-      omega arith,
-      ⊎-elim
-          (λ w. w .2 ∙ ap₂ (λ (x y : ℕ). x + y) (h .inv .1) (w .1 .ensures) ∙ sym (same-core (a .vcpus .now) (a .i) (h .j) (a .t) (sym here ∙ w .0 .taken ∙ own)))
-          (λ w. w .1 ∙ h .inv .1 ∙ sym (other-core (a .vcpus .now) (a .i) (h .j) (a .t) (λ e. w .0 .left (here ∙ e ∙ sym own))))
-          (c .if1 .came),
-    )
+loop-again c = (omega arith, next (c .before))
 
 returns : tie.Need-returns Inv-loop μ-loop
-unfolding vcpuNeed
 returns c =
     let h = c .before .loop in
-    let a = c .before .before .before .before .before .args in
-    let all : h .j ≡ a .i = omega arith in
-    h .inv .1 ∙ ap (upto (a .vcpus .now) (a .i) 0 (a .t)) all
+    let a = c .before .before .args in
+    let all : h .j ≡ a .count = omega arith in
+    h .inv .1 ∙ ap (upto (a .own) (a .periods .now) (a .budgets .now) (a .t)) all
 
 pub vcpu-need-spec : {M : Type 1} → statement M
 vcpu-need-spec =
@@ -110,12 +105,15 @@ vcpu-need-spec =
     (tie.spec
     Inv-loop
     μ-loop
-    vcpu-word-requires
-    vcpu-word-requires-2
-    cast-sum
     loop-holds
-    vcpu-word-requires-3
-    vcpu-charges-requires
+    cast-k
+    mul-arrivals
+    element-copy-out-arrivals
+    arrivals-requires
+    mul-sum
+    element-copy-out-sum
+    cast-sum
+    mul-sum-2
     add-sum
     add-j
     loop-less

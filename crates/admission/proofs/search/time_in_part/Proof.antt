@@ -5,7 +5,7 @@ use native.Mathlib.Nat.{le-trans}
 use native.Mathlib.Omega.{arith}
 use mathlib.Core.Path.{_≡_, sym, _∙_}
 use Rattle.supply.specs.Supply.{supply, firstSupply}
-use Rattle.rows.specs.RowWords.{deadline}
+use Rattle.rows.specs.RowWords.{deadline, cost}
 use Rattle.rows.specs.Reload.{charges}
 use Rattle.times.specs.Times.{taskNeed, timeInPart}
 use Rattle.times.proofs.Search.{Searchable, Before, before-one, next, found, missed, exceeded}
@@ -15,15 +15,15 @@ use Rattle.admission.proofs.search.time_in_part.Statement.{statement}
 use Rattle.admission.proofs.search.time_in_part.Tie as tie
 
 abbrev Inv-loop : tie.InvT-loop
-Inv-loop period budget reload part i due charged t₀ t =
-    (1 ≤ t) × (due ≡ deadline part i) × Before (supply period budget) (taskNeed reload part i) t × (charged ≡ charges reload part i)
+Inv-loop period budget reload part i due own charged t₀ t =
+    (1 ≤ t) × (due ≡ deadline part i) × Before (supply period budget) (taskNeed reload part i) t × (charged ≡ charges reload part i) × (own ≡ cost part i)
 
 abbrev μ-loop : tie.MeasureT-loop
-μ-loop period budget reload part i due charged t₀ t = due + 1 - t
+μ-loop period budget reload part i due own charged t₀ t = due + 1 - t
 
 -- the places: the entry and the turn of the loop, and the turn after its calls
 abbrev entry : tie.In-loop Inv-loop μ-loop → tie.Start Inv-loop μ-loop
-entry c = c .before .before .before .before .before
+entry c = c .before .before .before .before .before .before
 
 abbrev asked : tie.After-task-need Inv-loop μ-loop → tie.In-loop Inv-loop μ-loop
 asked c = c .before .before
@@ -44,6 +44,9 @@ due-le c = let s = entry c in let r = s .pre .3 .row (s .args .i) (s .pre .4) in
 task-word-requires : tie.Need-task-word-requires Inv-loop μ-loop
 task-word-requires c κs = search needs
 
+cost-requires : tie.Need-cost-requires Inv-loop μ-loop
+cost-requires c κs = search needs
+
 charges-requires : tie.Need-charges-requires Inv-loop μ-loop
 charges-requires c κs = search needs
 
@@ -51,7 +54,7 @@ cast-due : tie.Need-cast-due Inv-loop μ-loop
 cast-due c = omega (arith, c .task-word .ok)
 
 loop-holds : tie.Need-loop-holds Inv-loop μ-loop
-loop-holds c = (omega arith, c .before .task-word .ensures, before-one (search-of (c .before .before .before)), c .charges .ensures)
+loop-holds c = (omega arith, c .before .before .task-word .ensures, before-one (search-of (c .before .before .before .before)), c .charges .ensures, c .before .cost .ensures)
 
 cast-task-need : tie.Need-cast-task-need Inv-loop μ-loop
 cast-task-need c = omega (arith, due-le (c .before), c .before .before .loop .inv .1)
@@ -59,16 +62,24 @@ cast-task-need c = omega (arith, due-le (c .before), c .before .before .loop .in
 task-need-requires : tie.Need-task-need-requires Inv-loop μ-loop
 task-need-requires c κs =
     let s = entry (c .before) in
+    let a = s .args in
     let h = c .before .before .loop in
-    (omega (arith, due-le (c .before), h .inv .1), s .pre .3, s .pre .4, rw (h .inv .3) (kept-le (s .args .reload) (s .args .part .now) (s .args .i) (s .pre .2) (s .pre .3) (s .pre .4)))
+    let r = s .pre .3 .row (a .i) (s .pre .4) in (
+      omega (arith, r .cost-high, h .inv .4),
+      omega (arith, due-le (c .before), h .inv .1),
+      s .pre .3,
+      omega (arith, s .pre .4),
+      kept-le (a .reload) (a .part .now) (a .i) _ _ (h .inv .4) (h .inv .3) (s .pre .2) (s .pre .3) (s .pre .4),
+    )
 
--- the need with the charges kept is the task's
+-- the need with what is kept is the task's
 need-is : (c : tie.After-task-need Inv-loop μ-loop) → let a = entry (asked c) .args in
     c .task-need .result ≡ taskNeed (a .reload) (a .part .now) (a .i) (asked c .before .loop .t)
 need-is c =
     let s = entry (asked c) in
+    let a = s .args in
     let h = asked c .before .loop in
-    rw (h .inv .3) at (c .task-need .ensures) ∙ kept-need (s .args .reload) (s .args .part .now) (s .args .i) (h .t) (omega (arith, s .pre .3 .few, s .pre .4))
+    c .task-need .ensures ∙ kept-need (a .reload) (a .part .now) (a .i) _ _ (h .inv .4) (h .inv .3) (h .t) (omega (arith, s .pre .3 .few, s .pre .4))
 
 returns : tie.Need-returns Inv-loop μ-loop
 unfolding timeInPart
@@ -85,8 +96,8 @@ first-supply-requires c κs =
     let s = entry (within c) in
     (s .pre .0, s .pre .1, rw (need-is (c .before)) (search-of s .some (within c .before .loop .t)), omega (arith, due-le (within c), within c .before .loop .inv .1))
 
-cast-t16 : tie.Need-cast-t16 Inv-loop μ-loop
-cast-t16 c = let d = turn (c .before) in omega (arith, due-le d, d .before .loop .inv .1)
+cast-t17 : tie.Need-cast-t17 Inv-loop μ-loop
+cast-t17 c = let d = turn (c .before) in omega (arith, due-le d, d .before .loop .inv .1)
 
 returns-2 : tie.Need-returns-2 Inv-loop μ-loop
 unfolding timeInPart
@@ -104,13 +115,13 @@ loop-again : tie.Need-loop-again Inv-loop μ-loop
 loop-again c =
     let d = turn (c .before) in
     let h = d .before .loop in
-    (omega arith, h .inv .1, rw (c .before .first-supply .ensures, need-is (c .before .before .before)) (next (search-of (entry d)) (h .t) (h .inv .2)), h .inv .3)
+    (omega arith, h .inv .1, rw (c .before .first-supply .ensures, need-is (c .before .before .before)) (next (search-of (entry d)) (h .t) (h .inv .2)), h .inv .3, h .inv .4)
 
 returns-3 : tie.Need-returns-3 Inv-loop μ-loop
 unfolding timeInPart
 returns-3 c =
     let h = c .before .loop in
-    sym (missed (search-of (c .before .before .before .before .before)) _ (h .t) (omega (arith, h .inv .1)) (h .inv .2))
+    sym (missed (search-of (c .before .before .before .before .before .before)) _ (h .t) (omega (arith, h .inv .1)) (h .inv .2))
 
 pub time-in-part-spec : {M : Type 1} → statement M
 time-in-part-spec =
@@ -120,6 +131,7 @@ time-in-part-spec =
     μ-loop
     task-word-requires
     cast-due
+    cost-requires
     charges-requires
     loop-holds
     cast-task-need
@@ -127,7 +139,7 @@ time-in-part-spec =
     returns
     cast-first-supply
     first-supply-requires
-    cast-t16
+    cast-t17
     returns-2
     loop-less
     loop-again

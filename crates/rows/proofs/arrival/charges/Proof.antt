@@ -3,15 +3,15 @@ use Prim.Native.Nat.{ℕ, _+_, _-_, _≤_, _<_}
 use native.Mathlib.Omega.{arith}
 use mathlib.Core.Path.{_≡_}
 use borrow.Author.Needs.{needs}
-use Rattle.rows.proofs.Charging.{Charging, charging-start, charging-next, charging-end, charges-none}
+use Rattle.rows.proofs.Charging.{Charging, charging-start, charging-next, charging-end}
 use Rattle.rows.proofs.arrival.charges.Statement.{statement}
 use Rattle.rows.proofs.arrival.charges.Tie as tie
 
 abbrev Inv-loop : tie.InvT-loop
-Inv-loop reload tasks i found₀ held₀ j₀ found held j = Charging reload tasks i held j found
+Inv-loop reload tasks i found₀ j₀ held₀ found j held = Charging reload tasks i held j found
 
 abbrev μ-loop : tie.MeasureT-loop
-μ-loop reload tasks i found₀ held₀ j₀ found held j = j
+μ-loop reload tasks i found₀ j₀ held₀ found j held = j
 
 -- the places: the entry and the turn of the loop
 abbrev entry : tie.In-loop Inv-loop μ-loop → tie.Start Inv-loop μ-loop
@@ -20,14 +20,16 @@ entry c = c .before .before .before .before .before
 abbrev turn : tie.After-charge Inv-loop μ-loop → tie.In-loop Inv-loop μ-loop
 turn c = c .before
 
-returns : tie.Need-returns Inv-loop μ-loop
-returns c = let a = c .before .before .args in charges-none (a .reload) (a .tasks .now) (a .i) (c .if1 .taken)
+planned-requires : tie.Need-planned-requires Inv-loop μ-loop
+planned-requires c κs = search needs
 
 task-word-requires : tie.Need-task-word-requires Inv-loop μ-loop
 task-word-requires c κs = search needs
 
 loop-holds : tie.Need-loop-holds Inv-loop μ-loop
-loop-holds c = let a = c .before .before .before .args in charging-start (a .reload) (a .tasks .now) (a .i) _ (c .task-word .ensures) (omega arith)
+loop-holds c =
+    let a = c .before .before .before .args in
+    charging-start (a .reload) (a .tasks .now) (a .i) _ _ (c .before .planned .ensures) (c .task-word .ensures)
 
 sub-j : tie.Need-sub-j Inv-loop μ-loop
 sub-j c = omega arith
@@ -57,8 +59,8 @@ loop-again c =
     let h = d .before .loop in
     rw (c .task-word2 .ensures) (charging-next (a .reload) (a .tasks .now) (a .i) (h .inv) (h .j - 1) (c .before .charge .result) (omega arith) (c .before .charge .ensures))
 
-returns-2 : tie.Need-returns-2 Inv-loop μ-loop
-returns-2 c = let a = c .before .before .before .before .before .args in charging-end (a .reload) (a .tasks .now) (a .i) (c .before .loop .inv) (omega arith)
+returns : tie.Need-returns Inv-loop μ-loop
+returns c = let a = c .before .before .before .before .before .args in charging-end (a .reload) (a .tasks .now) (a .i) (c .before .loop .inv) (omega arith)
 
 pub charges-spec : {M : Type 1} → statement M
 charges-spec =
@@ -66,7 +68,7 @@ charges-spec =
     (tie.spec
     Inv-loop
     μ-loop
-    returns
+    planned-requires
     task-word-requires
     loop-holds
     sub-j
@@ -77,4 +79,4 @@ charges-spec =
     task-word-requires-2
     loop-less
     loop-again
-    returns-2)
+    returns)

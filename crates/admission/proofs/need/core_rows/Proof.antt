@@ -1,0 +1,114 @@
+-- `admission::need::core_rows` meets its contract, by the laws of entries for the VCPUs of a core (`OnCore`).
+use Prim.Native.Nat.{ℕ, _+_, _-_, _<_, _≤_}
+use native.Mathlib.Omega.{arith}
+use mathlib.Core.Logic.{⊎-elim}
+use mathlib.Core.Path.{_≡_, refl, sym, subst, _∙_}
+use lib.ListN.{length, length-set}
+use Rattle.rows.specs.RowWords.{core as coreOf}
+use borrow.Author.Needs.{needs}
+use Rattle.admission.specs.Earlier.{OnCore}
+use Rattle.admission.proofs.OnCore.{on-core-start, on-core-hit, on-core-miss}
+use Rattle.admission.proofs.need.core_rows.Statement.{statement}
+use Rattle.admission.proofs.need.core_rows.Tie as tie
+
+abbrev Inv-loop : tie.InvT-loop
+Inv-loop vcpus i core periods₀ budgets₀ count₀ j₀ periods budgets count j =
+    (j ≤ i) × OnCore vcpus i j count periods budgets × (length periods ≡ 16) × (length budgets ≡ 16)
+
+abbrev μ-loop : tie.MeasureT-loop
+μ-loop vcpus i core periods₀ budgets₀ count₀ j₀ periods budgets count j = i - j
+
+-- the places: the entry and the turn of the loop
+abbrev entry : tie.In-loop Inv-loop μ-loop → tie.Start Inv-loop μ-loop
+entry c = c .before .before .before .before
+
+abbrev turn : tie.After-vcpu-word2 Inv-loop μ-loop → tie.In-loop Inv-loop μ-loop
+turn c = c .before
+
+below : (c : tie.In-loop Inv-loop μ-loop) → c .before .loop .count < 16
+below c = omega (arith, entry c .pre .0 .few, entry c .pre .1, c .before .loop .inv .1 .few)
+
+vcpu-word-requires : tie.Need-vcpu-word-requires Inv-loop μ-loop
+vcpu-word-requires c κs = search needs
+
+loop-holds : tie.Need-loop-holds Inv-loop μ-loop
+loop-holds c = (omega arith, on-core-start _ _ _ _, refl, refl)
+
+vcpu-word-requires-2 : tie.Need-vcpu-word-requires-2 Inv-loop μ-loop
+vcpu-word-requires-2 c κs = search needs
+
+cast-k : tie.Need-cast-k Inv-loop μ-loop
+cast-k c = omega arith
+
+vcpu-word-requires-3 : tie.Need-vcpu-word-requires-3 Inv-loop μ-loop
+vcpu-word-requires-3 c κs = search needs
+
+mul-periods : tie.Need-mul-periods Inv-loop μ-loop
+mul-periods c = omega (arith, below (turn (c .before .before)))
+
+array-write-periods : tie.Need-array-write-periods Inv-loop μ-loop
+array-write-periods c = below (turn (c .before .before))
+
+vcpu-word-requires-4 : tie.Need-vcpu-word-requires-4 Inv-loop μ-loop
+vcpu-word-requires-4 c κs = search needs
+
+mul-budgets : tie.Need-mul-budgets Inv-loop μ-loop
+mul-budgets c = omega (arith, below (turn (c .before .before .before)))
+
+array-write-budgets : tie.Need-array-write-budgets Inv-loop μ-loop
+array-write-budgets c = below (turn (c .before .before .before))
+
+add-count : tie.Need-add-count Inv-loop μ-loop
+add-count c = omega (arith, below (turn (c .before .before .before)))
+
+add-j : tie.Need-add-j Inv-loop μ-loop
+add-j c = omega arith
+
+loop-less : tie.Need-loop-less Inv-loop μ-loop
+loop-less c = omega arith
+
+loop-again : tie.Need-loop-again Inv-loop μ-loop
+loop-again c =
+    let d = turn (c .before) in
+    let s = entry d in
+    let a = s .args in
+    let h = d .before .loop in
+    let here = c .before .vcpu-word2 .ensures in
+    let own = d .before .before .vcpu-word .ensures in
+    let row = s .pre .0 .row (h .j) (omega (arith, s .pre .1)) in
+    ⊎-elim
+    (λ w.
+    let entered = on-core-hit (a .vcpus .now) (a .i) (h .inv .1) (sym here ∙ w .0 .taken ∙ own) row _ _ (w .1 .ensures) (w .2 .ensures) (omega (arith, below d, h .inv .2)) (omega (arith, below d, h .inv .3)) in
+    rw (w .3, w .4, w .5) (omega arith, entered, length-set (h .periods) _ _ ∙ h .inv .2, length-set (h .budgets) _ _ ∙ h .inv .3))
+    (λ w.
+    rw (w .1, w .2, w .3) (omega arith, on-core-miss (a .vcpus .now) (a .i) (h .inv .1) (λ e. w .0 .left (here ∙ e ∙ sym own)), h .inv .2, h .inv .3))
+    (c .if1 .came)
+
+returns : tie.Need-returns Inv-loop μ-loop
+returns c =
+    let a = c .before .before .before .before .args in
+    let h = c .before .loop in
+    let all : h .j ≡ a .i = omega arith in
+    subst (λ (j : ℕ). OnCore (a .vcpus .now) (a .i) j (h .count) (h .periods) (h .budgets)) all (h .inv .1)
+
+pub core-rows-spec : {M : Type 1} → statement M
+core-rows-spec =
+    tie.close
+    (tie.spec
+    Inv-loop
+    μ-loop
+    vcpu-word-requires
+    loop-holds
+    vcpu-word-requires-2
+    cast-k
+    vcpu-word-requires-3
+    mul-periods
+    array-write-periods
+    vcpu-word-requires-4
+    mul-budgets
+    array-write-budgets
+    add-count
+    add-j
+    loop-less
+    loop-again
+    returns)
