@@ -1,5 +1,6 @@
-//! Admission of a task plan: document 01, "Plans", with refusals 2 to 7 and 15 to 22 of "Refusals in the
-//! order tested". A time is found as that section defines it: every microsecond from 1 is tried.
+//! Admission of a task plan: document 01, "Plans", with the reload of document 02, No. 3, and refusals 2 to
+//! 7 and 15 to 22 of "Refusals in the order tested". A time is found as that section defines it: every
+//! microsecond from 1 is tried.
 
 use std::fmt;
 
@@ -171,13 +172,22 @@ pub fn vcpu_time(vcpus: &[Vcpu], row: usize) -> Option<u32> {
     first_time(vcpu.period, vcpu.budget, &earlier_vcpus(vcpus, row), |t| t)
 }
 
-fn earlier_tasks(part: &[Task], reload: u32, place: usize) -> Vec<Earlier> {
-    let common = |other: &Task| (other.set & part[place].set).count_ones();
-    part[..place]
+/// The colours of row j that an arrival of j has reloaded before the task at that place is done: those of
+/// j that lie in the union of rows j + 1 up to the place, the task in question among them. Each counts
+/// once, however many of these rows hold it (document 02, No. 3; equation (3) of document 000).
+fn reloaded(part: &[Task], j: usize, place: usize) -> u32 {
+    let union = part[j + 1..=place]
         .iter()
-        .map(|other| Earlier {
-            period: other.period.into(),
-            charge: u64::from(other.cost()) + u64::from(reload) * u64::from(common(other)),
+        .fold(0, |union, task| union | task.set);
+    (part[j].set & union).count_ones()
+}
+
+fn earlier_tasks(part: &[Task], reload: u32, place: usize) -> Vec<Earlier> {
+    (0..place)
+        .map(|j| Earlier {
+            period: part[j].period.into(),
+            charge: u64::from(part[j].cost())
+                + u64::from(reload) * u64::from(reloaded(part, j, place)),
         })
         .collect()
 }
@@ -346,6 +356,111 @@ mod tests {
         assert_eq!(second(100, 2500), 3600);
         assert_eq!(second(100, 3000), 5200);
         assert_eq!(second(0, 3000), 4000);
+    }
+
+    /// Tasks of cost 1,000 with those sets and an L of 100, each of which arrives once: their times.
+    fn nested(sets: &[u32]) -> Vec<u32> {
+        let rows: Vec<_> = sets
+            .iter()
+            .map(|set| [0, 10_000, 10_000, *set, 1000])
+            .collect();
+        let plan = recorder(100, [0, 0, 10_000, 10_000], &rows);
+        plan.times(1 + sets.len()).unwrap()
+    }
+
+    #[test]
+    fn nested_reload_of_document_02() {
+        assert_eq!(nested(&[0x1, 0x1, 0x2]), [10_000, 1000, 2100, 3100]);
+    }
+
+    /// Not pair by pair, which gives the third row 3,000 above: here each pair of rows that are next to
+    /// each other shares a colour, and no other pair. Pair by pair the times are 3,100 and 4,100.
+    #[test]
+    fn the_rows_between_count() {
+        let times = nested(&[0x3, 0x6, 0xC, 0x18]);
+        assert_eq!(times, [10_000, 1000, 2100, 3200, 4300]);
+        // four rows between: colour 0 is met in the second row alone
+        let times = nested(&[0x1, 0x1, 0x2, 0x4, 0x8, 0x10]);
+        assert_eq!(times, [10_000, 1000, 2100, 3100, 4100, 5100, 6100]);
+    }
+
+    /// Not the rows between alone: the first and the third row share, and the second shares with none.
+    /// Without the third row's own set its time is 3,000.
+    #[test]
+    fn the_task_in_question_counts() {
+        assert_eq!(nested(&[0x1, 0x2, 0x1]), [10_000, 1000, 2000, 3100]);
+    }
+
+    /// Not all of j's colours: with j's own set in the union the times are 2,200 and 3,300.
+    #[test]
+    fn j_itself_does_not_count() {
+        assert_eq!(nested(&[0x3, 0x4, 0x8]), [10_000, 1000, 2000, 3000]);
+    }
+
+    /// Not the rows before j: the second row shares colour 0 with the first, and nothing with the third.
+    /// With the first row in the union of the second the third time is 3,200.
+    #[test]
+    fn rows_before_j_do_not_count() {
+        assert_eq!(nested(&[0x1, 0x3, 0x4]), [10_000, 1000, 2100, 3100]);
+    }
+
+    /// Not a sum over rows: two later rows hold the one colour. Were it counted for each of them the third
+    /// time would be 3,300.
+    #[test]
+    fn a_colour_counts_once() {
+        assert_eq!(nested(&[0x1, 0x1, 0x1]), [10_000, 1000, 2100, 3200]);
+    }
+
+    /// Not the colours of the union: by their count the times are 2,200 and 3,400, and then 2,200 and
+    /// 3,300.
+    #[test]
+    fn only_colours_of_j_count() {
+        assert_eq!(nested(&[0x1, 0x6, 0x8]), [10_000, 1000, 2000, 3000]);
+        assert_eq!(nested(&[0x3, 0x6, 0x4]), [10_000, 1000, 2100, 3200]);
+    }
+
+    /// Not rows behind the task in question: only the third row holds the first row's colour, and with it
+    /// the second time is 2,100.
+    #[test]
+    fn rows_behind_do_not_count() {
+        assert_eq!(nested(&[0x1, 0x2, 0x1])[2], 2000);
+    }
+
+    /// Each arrival is charged. An arrival of the first row takes 900 and a reload of 100, since the second
+    /// row shares its colour. The second is done at 1,500, just as the first arrives again. The third needs
+    /// 600 + 500 and two arrivals, 3,100 in all, so a further one at 3,000 adds 1,000: 4,100. Pair by pair
+    /// two arrivals of 900 would do: 2,900.
+    #[test]
+    fn each_arrival_is_charged() {
+        let rows = [
+            [0, 1500, 1500, 0x1, 900],
+            [0, 10_000, 10_000, 0x1, 500],
+            [0, 10_000, 10_000, 0x2, 600],
+        ];
+        let plan = recorder(100, [0, 0, 10_000, 10_000], &rows);
+        assert_eq!(plan.times(4), Ok(vec![10_000, 900, 1500, 4100]));
+    }
+
+    /// Not rows of another VCPU. In a plan that passes refusal 20 these share no colour with j, so the list
+    /// here is no such plan: the second row of VCPU 1 shares nothing with the first of its part, though the
+    /// rows of VCPUs 0 and 2 hold that one's colour. With either of them in the union it takes 2,100.
+    #[test]
+    fn rows_of_another_vcpu_do_not_count() {
+        let row = |vcpu, set| [vcpu, 10_000, 10_000, set, 1000];
+        let rows = [row(0, 0x2), row(1, 0x2), row(1, 0x4), row(2, 0x2)];
+        let list = recorder(100, [0, 0, 10_000, 10_000], &rows);
+        let vcpu = vcpus(&list.vcpus)[0];
+        assert_eq!(task_time(&vcpu, 100, part(&list.tasks, 1), 1), Some(2000));
+        // rows are counted from the first of the part: the whole list's first three share nothing with VCPU 1
+        let rows = [(0, 0x1), (0, 0x1), (0, 0x1), (1, 0x2), (1, 0x2), (1, 0x4)];
+        let mut plan = recorder(
+            100,
+            [0, 0, 10_000, 10_000],
+            &rows.map(|(vcpu, set)| row(vcpu, set)),
+        );
+        plan.vcpus.extend([1, 0, 10_000, 10_000]);
+        let times = [1000, 2100, 3200, 1000, 2100, 3100];
+        assert_eq!(plan.times(8), Ok([&[10_000; 2][..], &times].concat()));
     }
 
     #[test]
