@@ -98,7 +98,8 @@ fn example() -> Plan {
     lone_vcpu(255, 100, [10_000, 10_000], &rows)
 }
 
-/// The example of the program, and the other plans among the examples of document 01.
+/// The example of the program, the other plans among the examples of document 01, and that of document 02,
+/// No. 3.
 fn examples() -> Vec<Vec<u8>> {
     let printed = "vcpu 0 10000\ntask 0 1000\ntask 1 5200\nadmitted\n";
     assert_eq!(judge(&input(&example())).to_string(), printed);
@@ -119,6 +120,11 @@ fn examples() -> Vec<Vec<u8>> {
     };
     cases.push(good(&three(2000)));
     cases.push(refused(input(&three(3000)), 22, 2));
+    let rows = [0x1, 0x1, 0x2].map(|set| [10_000, 10_000, set, 1000]);
+    let nested = lone_vcpu(255, 100, [10_000, 10_000], &rows);
+    let printed = "vcpu 0 10000\ntask 0 1000\ntask 1 2100\ntask 2 3100\nadmitted\n";
+    assert_eq!(judge(&input(&nested)).to_string(), printed);
+    cases.push(good(&nested));
     cases
 }
 

@@ -4,6 +4,7 @@
 mod admit;
 mod colours;
 mod frames;
+mod nested;
 mod plans;
 
 use std::collections::BTreeMap;

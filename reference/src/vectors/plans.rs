@@ -1,8 +1,9 @@
-//! Vectors of document 01, "Plans", as little-endian 32-bit words, the count of cases first. A case is an
-//! operation and its words: 0, admission (board, reload, and each with its length in front the VCPU words
-//! and the task words, then the length of the list of times); 1, the part of a VCPU; 2, the least supply.
+//! Vectors of document 01, "Plans", with the reload of document 02, No. 3, as little-endian 32-bit words,
+//! the count of cases first. A case is an operation and its words: 0, admission (board, reload, and each
+//! with its length in front the VCPU words and the task words, then the length of the list of times); 1,
+//! the part of a VCPU; 2, the least supply.
 
-use super::{board_words, hash, put, Set};
+use super::{board_words, hash, nested, put, Set};
 use crate::boards::{accepted, spoil};
 use crate::frames::{Board, DOMAINS};
 use crate::plans::{
@@ -52,6 +53,7 @@ pub fn set(seed: u64) -> Set {
     cases.extend(spoilt_rows(&mut random));
     cases.extend(parts(&mut random));
     cases.extend(supplies(&mut random));
+    cases.extend(nested_sets(&mut random));
     put(&mut set, cases.len());
     for case in &cases {
         add(&mut set, case);
@@ -146,7 +148,7 @@ pub fn lone_vcpu(grant: u32, reload: u32, supplied: [u32; 2], rows: &[[u32; 4]])
     }
 }
 
-/// The examples of document 01 with the replies that are printed there.
+/// The examples of document 01 with the replies that are printed there, and that of document 02, No. 3.
 fn examples() -> Vec<Case> {
     let mut cases = Vec::new();
     for (t, least) in [(4000, 0), (6999, 2999), (7000, 3000), (9000, 3000)] {
@@ -179,6 +181,19 @@ fn examples() -> Vec<Case> {
     example(reloading(100, 2500), Ok(vec![10_000, 1000, 3600]));
     example(reloading(100, 3000), Ok(vec![10_000, 1000, 5200]));
     example(reloading(0, 3000), Ok(vec![10_000, 1000, 4000]));
+    let rows = [0x1, 0x1, 0x2].map(|set| [10_000, 10_000, set, 1000]);
+    let nested = lone_vcpu(255, 100, whole, &rows);
+    example(nested, Ok(vec![10_000, 1000, 2100, 3100]));
+    cases
+}
+
+/// Plans in which preemptions nest.
+fn nested_sets(random: &mut Random) -> Vec<Case> {
+    let mut cases = Vec::new();
+    for plan in nested::plans(random) {
+        let room = any_room(random, plan.rows());
+        cases.push(Case::Admission { plan, room });
+    }
     cases
 }
 
@@ -755,6 +770,6 @@ mod tests {
     fn every_refusal_occurs() {
         let set = set(crate::SEED);
         assert!(set.report());
-        assert!(set.stdin.len() < 900_000);
+        assert!(set.stdin.len() < 1_150_000);
     }
 }
