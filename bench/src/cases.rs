@@ -305,23 +305,21 @@ impl Case for Recolour {
     }
 }
 
-/// The admission of a plan, against a baseline that may keep charges between rounds.
+/// The admission of a plan.
 pub struct Admission {
     plan: Plan,
     lent: juzvanec::Board,
     times: Vec<u32>,
     expected: u32,
-    keeping: bool,
 }
 
 impl Admission {
-    pub fn new(plan: Plan, expected: u32, keeping: bool) -> Self {
+    pub fn new(plan: Plan, expected: u32) -> Self {
         Admission {
             lent: ours::lent(&plan.board),
             times: vec![7; inputs::ROWS],
             plan,
             expected,
-            keeping,
         }
     }
 
@@ -338,10 +336,7 @@ impl Admission {
             tasks,
             reload,
         } = black_box(&self.plan);
-        match self.keeping {
-            true => baseline::admit_plan_keeping(board, *reload, vcpus, tasks, &mut self.times),
-            false => baseline::admit_plan(board, *reload, vcpus, tasks, &mut self.times),
-        }
+        baseline::admit_plan(board, *reload, vcpus, tasks, &mut self.times)
     }
 }
 
@@ -364,9 +359,6 @@ impl Case for Admission {
     }
 
     fn symbols(&self) -> [&'static str; 2] {
-        match self.keeping {
-            true => ["juzvanec_admit_plan", "baseline_admit_plan_keeping"],
-            false => ["juzvanec_admit_plan", "baseline_admit_plan"],
-        }
+        ["juzvanec_admit_plan", "baseline_admit_plan"]
     }
 }

@@ -91,6 +91,22 @@ pub fn typical(tasks: u32) -> Plan {
     }
 }
 
+/// One VCPU with all tasks. Each shares a colour with the next one, so that a row's arrivals are charged to
+/// rows that share nothing with it, through those between.
+pub fn nested(tasks: u32) -> Plan {
+    let row = |row: u32| {
+        let set = 1 << (row % 16) | 1 << ((row + 1) % 16);
+        let period = 50_000 + 7000 * (row % 5);
+        task(0, period, period, set, 300 + 30 * row)
+    };
+    Plan {
+        board: board(64, &[0xFFFF]),
+        reload: 100,
+        vcpus: vec![0, 0, 10_000, 9000],
+        tasks: (0..tasks).flat_map(row).collect(),
+    }
+}
+
 /// One VCPU that has its core alone, and tasks that take all of it: two of short periods, and the others
 /// a sixth together. The last task has no time, and its search climbs in short steps to a deadline of
 /// 1,000,000.
@@ -181,12 +197,17 @@ fn plan_cases(tasks: u32) -> Vec<Named> {
         named(
             "admission, typical plan",
             &size,
-            Admission::new(typical(tasks), ADMITTED, false),
+            Admission::new(typical(tasks), ADMITTED),
+        ),
+        named(
+            "admission, nested sets",
+            &size,
+            Admission::new(nested(tasks), ADMITTED),
         ),
         named(
             "admission, hard plan",
             &rounds,
-            Admission::new(hard(tasks), LATE, false),
+            Admission::new(hard(tasks), LATE),
         ),
     ]
 }
@@ -198,22 +219,6 @@ pub fn full_size() -> Vec<Named> {
     cases.push(named("bleaching", "", Pages::new(true)));
     cases.extend(plan_cases(32));
     cases
-}
-
-/// The plans against a baseline that keeps the charges of earlier tasks between the rounds.
-pub fn keeping() -> Vec<Named> {
-    vec![
-        named(
-            "admission, typical plan",
-            ", 32 tasks, charges kept",
-            Admission::new(typical(32), ADMITTED, true),
-        ),
-        named(
-            "admission, hard plan",
-            ", 32 tasks, charges kept",
-            Admission::new(hard(32), LATE, true),
-        ),
-    ]
 }
 
 /// The calls at several sizes, and what the sizes count.
@@ -243,8 +248,5 @@ pub fn growth() -> [Growth; 2] {
 /// All cases, some of them twice.
 pub fn all() -> impl Iterator<Item = Named> {
     let grown = growth().into_iter().flat_map(|growth| growth.cases);
-    full_size()
-        .into_iter()
-        .chain(keeping())
-        .chain(grown.flatten())
+    full_size().into_iter().chain(grown.flatten())
 }

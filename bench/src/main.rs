@@ -9,7 +9,7 @@ mod ours;
 
 use std::process::ExitCode;
 
-use inputs::{all, full_size, growth, keeping, Growth, Named};
+use inputs::{all, full_size, growth, Growth, Named};
 use measure::Pair;
 
 const USAGE: &str = "usage: bench check | times | instructions | all
@@ -144,17 +144,10 @@ fn growth_table(growth: Growth, what: What) {
 
 fn report(whats: &[What]) -> bool {
     let board = "N = 16. Look, fault and boot are on a board of four domains.";
-    let plan = "The hard plan is refused with 22 at its last row, after that many rounds.";
+    let plan = "With nested sets all tasks are on one VCPU, and each shares a colour with the next. The hard \
+                plan is refused with 22 at its last row, after that many rounds.";
     let text = format!("{board} {plan}");
     table("Calls at full size", &text, full_size(), whats);
-    let text = "Another method: the baseline keeps what an arrival of each earlier task costs, with reload, \
-                between the rounds of a search.";
-    table(
-        "Against a baseline that keeps charges",
-        text,
-        keeping(),
-        whats,
-    );
     for what in whats {
         match what {
             What::Times => println!("\n## How the time grows\n\nNanoseconds, ours / Rust, ratio."),

@@ -1,5 +1,6 @@
-//! Admission of a plan. A time is found by rounds: from t to the first microsecond whose supply covers the
-//! need in t, until that is t itself or lies beyond the bound.
+//! Admission of a plan, with the reload of document 02, No. 3. A time is found by rounds: from t to the
+//! first microsecond whose supply covers the need in t, until that is t itself or lies beyond the bound.
+//! What the earlier tasks ask for is worked out once for a search.
 
 use crate::{demand, demand_rows, Board, Refusal};
 
@@ -141,41 +142,33 @@ fn vcpu_time(vcpus: Rows, row: usize) -> Option<u32> {
     first_time(own[2], need, |amount| amount)
 }
 
-/// What an arrival of the earlier task costs the later one.
+/// An earlier row of the part: its period, and what an arrival of it costs the later one.
+type Earlier = (u64, u64);
+
+/// Fills in the rows before the place, from the nearest up: the colours that an arrival has reloaded are
+/// those that lie in the union of the rows between it and the place, and of the row there.
 #[inline]
-fn charge(reload: u32, earlier: Task, later: Task) -> u64 {
-    let shared = (earlier.set() & later.set()).count_ones();
-    u64::from(earlier.cost()) + u64::from(reload) * u64::from(shared)
+fn fill_earlier(reload: u32, part: Rows, place: usize, earlier: &mut [Earlier]) {
+    let mut union = Task(part.row(place)).set();
+    for (row, earlier) in earlier.iter_mut().enumerate().rev() {
+        let task = Task(part.row(row));
+        let reloaded = (task.set() & union).count_ones();
+        let charge = u64::from(task.cost()) + u64::from(reload) * u64::from(reloaded);
+        *earlier = (task.0[1].into(), charge);
+        union |= task.set();
+    }
 }
 
-/// The time of the row at that place of its VCPU's part; the need is worked out anew in each round.
+/// The time of the row at that place of its VCPU's part.
 #[inline]
 fn task_time(vcpu: &[u32], reload: u32, part: Rows, place: usize) -> Option<u32> {
     let own = Task(part.row(place));
-    let need = |t: u64| {
-        let earlier = part.words.chunks_exact(TASK_WORDS).take(place);
-        let asked = earlier.map(|row| t.div_ceil(row[1].into()) * charge(reload, Task(row), own));
-        u64::from(own.cost()) + asked.sum::<u64>()
-    };
-    let [period, budget] = [vcpu[2], vcpu[3]].map(u64::from);
-    first_time(own.0[2], need, |amount| {
-        first_supply(period, budget, amount)
-    })
-}
-
-/// The same, with periods and charges of the earlier rows kept between rounds.
-#[inline]
-fn task_time_keeping(vcpu: &[u32], reload: u32, part: Rows, place: usize) -> Option<u32> {
-    let own = Task(part.row(place));
-    let mut kept = [(0, 0); 32];
-    let earlier = part.words.chunks_exact(TASK_WORDS).take(place);
-    for (keep, row) in kept.iter_mut().zip(earlier) {
-        *keep = (u64::from(row[1]), charge(reload, Task(row), own));
-    }
-    let kept = &kept[..place];
+    let mut earlier = [(0, 0); 32];
+    let earlier = &mut earlier[..place];
+    fill_earlier(reload, part, place, earlier);
     let cost = u64::from(own.cost());
     let need = |t: u64| {
-        let asked = kept
+        let asked = earlier
             .iter()
             .map(|(period, charge)| t.div_ceil(*period) * charge);
         cost + asked.sum::<u64>()
@@ -203,14 +196,8 @@ fn vcpu_times(vcpus: Rows, found: &mut [u32]) -> Result<(), Refusal> {
 }
 
 /// The times of all tasks, each worked out over the part of its VCPU alone.
-#[inline(always)]
-fn task_times(
-    reload: u32,
-    vcpus: Rows,
-    tasks: Rows,
-    found: &mut [u32],
-    time: impl Fn(&[u32], u32, Rows, usize) -> Option<u32>,
-) -> Result<(), Refusal> {
+#[inline]
+fn task_times(reload: u32, vcpus: Rows, tasks: Rows, found: &mut [u32]) -> Result<(), Refusal> {
     let mut first = 0;
     while first < tasks.count() {
         let vcpu = tasks.row(first)[0];
@@ -221,7 +208,7 @@ fn task_times(
             TASK_WORDS,
         );
         for (place, found) in found[first..end].iter_mut().enumerate() {
-            match time(vcpus.row(vcpu as usize), reload, part, place) {
+            match task_time(vcpus.row(vcpu as usize), reload, part, place) {
                 Some(time) => *found = time,
                 None => return demand(false, 22, first + place),
             }
@@ -232,27 +219,6 @@ fn task_times(
 }
 
 /// Times are kept apart until no row is late, so that a refusal leaves the lent list alone.
-#[inline(always)]
-fn admit(
-    board: &Board,
-    reload: u32,
-    [vcpus, tasks]: [&[u32]; 2],
-    times: &mut [u32],
-    time: impl Fn(&[u32], u32, Rows, usize) -> Option<u32>,
-) -> Result<(), Refusal> {
-    board.check(None)?;
-    let vcpus = rows(vcpus, VCPU_WORDS);
-    let tasks = rows(tasks, TASK_WORDS);
-    check(board, reload, vcpus, tasks, times.len())?;
-    let count = vcpus.count();
-    let all = count + tasks.count();
-    let mut found = [0; MOST];
-    vcpu_times(vcpus, &mut found[..count])?;
-    task_times(reload, vcpus, tasks, &mut found[count..], time)?;
-    times[..all].copy_from_slice(&found[..all]);
-    Ok(())
-}
-
 #[inline(never)]
 #[export_name = "baseline_admit_plan"]
 pub fn admit_plan(
@@ -262,18 +228,15 @@ pub fn admit_plan(
     tasks: &[u32],
     times: &mut [u32],
 ) -> Result<(), Refusal> {
-    admit(board, reload, [vcpus, tasks], times, task_time)
-}
-
-/// Admission that keeps the charges of earlier tasks between the rounds of a search.
-#[inline(never)]
-#[export_name = "baseline_admit_plan_keeping"]
-pub fn admit_plan_keeping(
-    board: &Board,
-    reload: u32,
-    vcpus: &[u32],
-    tasks: &[u32],
-    times: &mut [u32],
-) -> Result<(), Refusal> {
-    admit(board, reload, [vcpus, tasks], times, task_time_keeping)
+    board.check(None)?;
+    let vcpus = rows(vcpus, VCPU_WORDS);
+    let tasks = rows(tasks, TASK_WORDS);
+    check(board, reload, vcpus, tasks, times.len())?;
+    let count = vcpus.count();
+    let all = count + tasks.count();
+    let mut found = [0; MOST];
+    vcpu_times(vcpus, &mut found[..count])?;
+    task_times(reload, vcpus, tasks, &mut found[count..])?;
+    times[..all].copy_from_slice(&found[..all]);
+    Ok(())
 }
