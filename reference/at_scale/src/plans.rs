@@ -74,6 +74,34 @@ fn any_task(random: &mut Random, name: usize, vcpu: &Vcpu, own: u32, rows: u64) 
     row
 }
 
+/// Rows for a board: so many VCPUs with periods up to about the size, and so many tasks on them.
+fn filled(
+    random: &mut Random,
+    board: Board,
+    [vcpus, tasks]: [u64; 2],
+    size: u64,
+    reload: u32,
+) -> Plan {
+    let rows = any_vcpus(random, board.domains, vcpus, size);
+    let sets = own_colours(random, &board, &rows);
+    let holders: Vec<usize> = (0..rows.len()).filter(|row| sets[*row] != 0).collect();
+    let mut names: Vec<usize> = (0..tasks).map(|_| random.pick(&holders)).collect();
+    names.sort();
+    let mut tasks = Vec::new();
+    for name in &names {
+        let same = names.iter().filter(|other| *other == name).count();
+        let own = sets[*name];
+        tasks.extend(any_task(random, *name, &rows[*name], own, same as u64));
+    }
+    let words = |vcpu: &Vcpu| [vcpu.core, vcpu.domain, vcpu.period, vcpu.budget];
+    Plan {
+        board,
+        reload,
+        vcpus: rows.iter().flat_map(words).collect(),
+        tasks,
+    }
+}
+
 /// A plan that refuses nothing up to 20.
 fn any_plan(random: &mut Random) -> Plan {
     let n = random.pick(&[1, 2, 4, 8, 16, 16, 16]);
@@ -89,26 +117,22 @@ fn any_plan(random: &mut Random) -> Plan {
             random.pick(&[4, 20, 60, 200]),
         ),
     };
-    let vcpu_count = 1 + random.below(most_vcpus);
-    let rows = any_vcpus(random, domains, vcpu_count, size);
-    let sets = own_colours(random, &board, &rows);
-    let holders: Vec<usize> = (0..rows.len()).filter(|row| sets[*row] != 0).collect();
-    let count = 1 + random.below(most_tasks);
-    let mut names: Vec<usize> = (0..count).map(|_| random.pick(&holders)).collect();
-    names.sort();
-    let mut tasks = Vec::new();
-    for name in &names {
-        let same = names.iter().filter(|other| *other == name).count();
-        let own = sets[*name];
-        tasks.extend(any_task(random, *name, &rows[*name], own, same as u64));
-    }
-    let words = |vcpu: &Vcpu| [vcpu.core, vcpu.domain, vcpu.period, vcpu.budget];
-    Plan {
-        board,
-        reload: random.pick(&[0, 0, 0, 0, 1, 1, 2, 20, RELOAD]),
-        vcpus: rows.iter().flat_map(words).collect(),
-        tasks,
-    }
+    let counts = [most_vcpus, most_tasks].map(|most| 1 + random.below(most));
+    let reload = random.pick(&[0, 0, 0, 0, 1, 1, 2, 20, RELOAD]);
+    filled(random, board, counts, size, reload)
+}
+
+/// The same with several rows to a VCPU, sets that overlap and a low reload, so that many are admitted with
+/// preemptions that nest.
+fn nested_plan(random: &mut Random) -> Plan {
+    let n = random.pick(&[2, 4, 8, 16]);
+    let frames = 1 + random.below(4096) as u32;
+    let board = accepted(random, n, frames, 1);
+    let vcpus = random.pick(&[1, 1, 2]);
+    let tasks = vcpus * 3 + random.below(6);
+    let size = random.pick(&[60, 200, 400]);
+    let reload = random.pick(&[1, 1, 2, 4]);
+    filled(random, board, [vcpus, tasks], size, reload)
 }
 
 /// A number near one of a plan, or any.
@@ -222,6 +246,7 @@ pub fn sound(random: &mut Random) -> Plan {
             let [vcpus, tasks] = [4, 8].map(|most| 1 + random.below(most) as usize);
             admitted(random, vcpus, tasks)
         }
+        1..=750 => nested_plan(random),
         _ => any_plan(random),
     }
 }

@@ -145,6 +145,63 @@ void juzvanec_part(const uint32_t *tasks, size_t task_words, uint32_t vcpu, size
         *start = task_words;
 }
 
+static uint32_t ones(uint32_t set)
+{
+    uint32_t count = 0;
+
+    for (; set; set &= set - 1)
+        count++;
+    return count;
+}
+
+static uint64_t least_supply(const uint32_t *vcpu, uint64_t t)
+{
+    uint64_t period = vcpu[JUZVANEC_VCPU_PERIOD];
+    uint64_t budget = vcpu[JUZVANEC_VCPU_BUDGET];
+    uint64_t gap = period - budget;
+    uint64_t rest;
+
+    if (t < gap)
+        return 0;
+    rest = (t - gap) % period;
+    return (t - gap) / period * budget + (rest > gap ? rest - gap : 0);
+}
+
+static uint64_t cost(const uint32_t *task)
+{
+    return task[JUZVANEC_TASK_COSTS + ones(task[JUZVANEC_TASK_SET]) - 1];
+}
+
+/* The need of a task row in t, with only the colours reloaded that the two rows of a pair both hold. */
+static uint64_t pairwise_need(uint32_t reload, const uint32_t *tasks, const uint32_t *own, uint64_t t)
+{
+    uint64_t need = cost(own);
+    const uint32_t *row;
+
+    for (row = tasks; row != own; row += JUZVANEC_TASK_WORDS) {
+        uint64_t period = row[JUZVANEC_TASK_PERIOD];
+        uint64_t both = ones(row[JUZVANEC_TASK_SET] & own[JUZVANEC_TASK_SET]);
+
+        if (row[JUZVANEC_TASK_VCPU] == own[JUZVANEC_TASK_VCPU])
+            need += (t + period - 1) / period * (cost(row) + reload * both);
+    }
+    return need;
+}
+
+/* The last task's time by that need. It has one, since it has one by the need of an admitted plan. */
+static uint32_t pairwise_time(uint32_t reload, const uint32_t *vcpus, const uint32_t *tasks,
+                              size_t task_words)
+{
+    const uint32_t *own = tasks + task_words - JUZVANEC_TASK_WORDS;
+    const uint32_t *vcpu = vcpus + JUZVANEC_VCPU_WORDS * own[JUZVANEC_TASK_VCPU];
+    uint64_t t;
+
+    for (t = 1; t < own[JUZVANEC_TASK_DEADLINE]; t++)
+        if (least_supply(vcpu, t) >= pairwise_need(reload, tasks, own, t))
+            break;
+    return (uint32_t)t;
+}
+
 uint32_t juzvanec_admit_plan(const struct juzvanec_board *board, uint32_t reload, const uint32_t *vcpus,
                              size_t vcpu_words, const uint32_t *tasks, size_t task_words,
                              uint32_t *times, size_t times_words, uint32_t *row)
@@ -155,6 +212,8 @@ uint32_t juzvanec_admit_plan(const struct juzvanec_board *board, uint32_t reload
 
     if (!number && wrong("plan-time"))
         times[rows - 1]++;
+    if (!number && wrong("plan-pairwise"))
+        times[rows - 1] = pairwise_time(reload, vcpus, tasks, task_words);
     if (!number && rows < times_words && wrong("plan-rest"))
         times[rows] = 0;
     if (number && times_words > 0 && wrong("plan-refused"))
