@@ -4,7 +4,7 @@
 //! after another with nothing between them.
 
 use super::plans::lone_vcpu;
-use super::{put, Set};
+use super::{nested, put, Set};
 use crate::admit::{judge, Verdict};
 use crate::boards::spoil;
 use crate::inputs::{
@@ -49,6 +49,8 @@ pub fn inputs(seed: u64) -> Vec<Vec<u8>> {
     cases.extend(long_inputs(&mut random));
     cases.extend((0..ANY).map(|_| rubbish(&mut random)));
     cases.extend((0..ANY).map(|_| any_input(&mut random)));
+    // some of the plans in which preemptions nest
+    cases.extend(nested::plans(&mut random).iter().step_by(11).map(input));
     cases
 }
 
