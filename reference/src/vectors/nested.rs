@@ -273,12 +273,17 @@ pub fn plans(random: &mut Random) -> Vec<Plan> {
         };
         plans.push(crowd(random, rows));
     }
+    plans
+}
+
+/// Each wrong reading of the rule gives another reply for enough of the plans.
+pub fn assert_told_apart(plans: &[Plan]) {
+    let right: Vec<_> = plans.iter().map(task_times).collect();
     for (name, rule) in WRONG {
-        let other = |plan: &&Plan| times_by(plan, rule) != task_times(plan);
-        let count = plans.iter().filter(other).count();
+        let replies = plans.iter().map(|plan| times_by(plan, rule));
+        let count = replies.zip(&right).filter(|(by, of)| by != *of).count();
         assert!(count >= FEWEST, "{name}: only {count} replies differ");
     }
-    plans
 }
 
 /// The times of the task rows, or the row that has none.

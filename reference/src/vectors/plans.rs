@@ -190,7 +190,9 @@ fn examples() -> Vec<Case> {
 /// Plans in which preemptions nest.
 fn nested_sets(random: &mut Random) -> Vec<Case> {
     let mut cases = Vec::new();
-    for plan in nested::plans(random) {
+    let plans = nested::plans(random);
+    nested::assert_told_apart(&plans);
+    for plan in plans {
         let room = any_room(random, plan.rows());
         cases.push(Case::Admission { plan, room });
     }
