@@ -1,3 +1,4 @@
--- The proofs of the claims: the examples of the domain rule, and every claim from the theorem of its own crate.
+-- The proofs of the claims: the examples of the domain rule, the colours reloaded, and every claim from the theorem of its own crate.
 pub mod Looks
+pub mod Reload
 pub mod Proved

@@ -10,15 +10,18 @@ use Rattle.isolation.proofs.Theorems as history
 use Rattle.supply.proofs.Laws as law
 use Rattle.times.proofs.Planner as planner
 use Rattle.times.proofs.Added.{added-rows-change-nothing}
+use Rattle.times.proofs.SafeSide as safe
 use Rattle.examples.proofs.Claim.{claim}
 use Rattle.report.proofs.LongInputs.{first-bytes-tell}
 use Rattle.marshal.proofs.Lent as lent
 use Rattle.claims.specs.Colours.{ColourClaims}
 use Rattle.claims.specs.Histories.{HistoryClaims}
 use Rattle.claims.specs.Times.{SupplyClaims, TimeClaims}
+use Rattle.claims.specs.Reload.{ReloadClaims}
 use Rattle.claims.specs.Interface.{InterfaceClaims}
 use Rattle.claims.specs.Claims.{Claims}
 use Rattle.claims.proofs.Looks.{look-claims}
+use Rattle.claims.proofs.Reload.{reloaded-counts}
 
 colour-claims : ColourClaims
 colour-claims =
@@ -78,6 +81,14 @@ time-claims =
       added-rows-change-nothing = added-rows-change-nothing;
     }
 
+reload-claims : ReloadClaims
+reload-claims =
+    record {
+      reloaded-counts = reloaded-counts;
+      shared-are-reloaded = safe.shared-are-reloaded;
+      no-earlier-than-pairwise = safe.no-earlier-than-pairwise;
+    }
+
 interface-claims : InterfaceClaims
 interface-claims =
     record {
@@ -97,6 +108,7 @@ claims =
       looks = look-claims;
       supply = supply-claims;
       times = time-claims;
+      reload = reload-claims;
       examples-hold = claim;
       interface = interface-claims;
     }

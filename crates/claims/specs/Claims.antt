@@ -8,6 +8,7 @@ use Rattle.claims.specs.Colours.{ColourClaims}
 use Rattle.claims.specs.Histories.{HistoryClaims}
 use Rattle.claims.specs.Looks.{LookClaims}
 use Rattle.claims.specs.Times.{SupplyClaims, TimeClaims}
+use Rattle.claims.specs.Reload.{ReloadClaims}
 use Rattle.claims.specs.Interface.{InterfaceClaims}
 
 pub record Claims : Type 0 where
@@ -22,7 +23,9 @@ pub record Claims : Type 0 where
   -- The supply of a periodic resource, and what a planner relies on.
   pub supply : SupplyClaims
   pub times : TimeClaims
-  -- Document 01's examples that are marked m, and the worked examples of document 004: `examples/specs/Table.antt` lists them.
+  -- The colours that an arrival reloads: document 02, No. 3.
+  pub reload : ReloadClaims
+  -- Document 01's examples that are marked m, those of document 02, and the worked examples of document 004: `examples/specs/Table.antt` lists them.
   pub examples-hold : allHold examples ≡ true
   -- What the C interface and the program add.
   pub interface : InterfaceClaims

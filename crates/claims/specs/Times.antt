@@ -1,11 +1,12 @@
--- The claims on supply and on times: document 01, "Plans". A part is the rows of one VCPU, and i one of its rows.
+-- The claims on supply and on times: document 01, "Plans", with the need of document 02, No. 3. A part is the rows of one VCPU, and i one of its rows.
 use Prim.Native.Nat.{ℕ, _+_, _-_, _*_, _<_, _≤_}
 use mathlib.Core.List.{List, _++_}
 use mathlib.Core.Path.{_≡_}
 use lib.Count.{ones}
 use lib.ListN.{length}
 use Rattle.supply.specs.Supply.{supply, firstSupply, Budget}
-use Rattle.rows.specs.RowWords.{vcpuPeriod, taskPeriod, deadline, colourSet, cost, colours-shared, taskRows}
+use Rattle.rows.specs.RowWords.{vcpuPeriod, taskPeriod, deadline, colourSet, cost, taskRows}
+use Rattle.rows.specs.Reload.{reloaded}
 use Rattle.times.specs.First.{At, Late, NoLater}
 use Rattle.times.specs.Times.{taskNeed, timeInPart, taskTime, vcpuNeed, vcpuTime}
 
@@ -37,11 +38,11 @@ pub record TimeClaims : Type 0 where
       → (1 ≤ t) × (t ≤ vcpuPeriod vcpus i) × (vcpuNeed vcpus i t ≤ t) × ((s : ℕ) → 1 ≤ s → s < t → s < vcpuNeed vcpus i s)
   pub vcpu-late-is-late :
       (vcpus : List ℕ) (i : ℕ) → vcpuTime vcpus i ≡ Late → (s : ℕ) → 1 ≤ s → s ≤ vcpuPeriod vcpus i → s < vcpuNeed vcpus i s
-  -- Lower costs, a lower reload and smaller overlaps never make a task's time later, where periods and its deadline stay.
+  -- Lower costs, a lower reload and fewer colours reloaded never make a task's time later, where periods and its deadline stay.
   pub less-is-no-later :
       (p q reload reload′ : ℕ) (part part′ : List ℕ) (i : ℕ)
       → deadline part i ≡ deadline part′ i → reload′ ≤ reload → cost part′ i ≤ cost part i
-      → ((j : ℕ) → j < i → (taskPeriod part′ j ≡ taskPeriod part j) × (cost part′ j ≤ cost part j) × (colours-shared part′ i j ≤ colours-shared part i j))
+      → ((j : ℕ) → j < i → (taskPeriod part′ j ≡ taskPeriod part j) × (cost part′ j ≤ cost part j) × (reloaded part′ i j ≤ reloaded part i j))
       → NoLater (timeInPart p q reload part i) (timeInPart p q reload′ part′ i)
   -- A larger budget of the VCPU never makes a task's time later.
   pub budget-is-no-later :

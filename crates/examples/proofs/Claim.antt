@@ -12,11 +12,13 @@ use Rattle.colours.specs.Sets.{isColourSet, has, coloursBelow, colourAt, placeO
 use Rattle.colours.specs.Cache.{isColourCount, cacheReply}
 use Rattle.colours.specs.Pages.{layoutPage, layoutReply, bleachIndex, bleachReply, dropBits, equationOne}
 use Rattle.supply.specs.Supply.{supply}
-use Rattle.rows.specs.RowWords.{cost, colours-shared}
+use Rattle.rows.specs.RowWords.{cost}
+use Rattle.rows.specs.Reload.{heldFrom, reloadedSet, reloaded, charge}
 use Rattle.rows.specs.Part.{partStart, partEnd, rowsFrom, partOf}
 use Rattle.plan.specs.Tests.{rowTests, planTests}
 use Rattle.times.specs.First.{firstFrom, firstTime}
-use Rattle.times.specs.Times.{arrivals, need, charge, taskNeed, timeInPart, taskTime, vcpuCharge, vcpuNeed, vcpuTime}
+use Rattle.times.specs.Times.{arrivals, need, taskNeed, timeInPart, taskTime, vcpuCharge, vcpuNeed, vcpuTime}
+use Rattle.times.specs.Pairwise.{colours-shared, pairwiseNeed, pairwiseTime}
 use Rattle.admission.specs.Admission.{timeTests, admissionReply}
 use Rattle.examples.specs.Example.{sameReply, sameList, numbers, timeNumbers, admissionNumbers, holds, allHold}
 use Rattle.examples.specs.Table.{examples}
@@ -27,7 +29,8 @@ unfolding
     isColourSet has coloursBelow colourAt placeOf isColourCount cacheReply layoutPage layoutReply bleachIndex bleachReply dropBits equationOne
     domainTests boardTests callTests framesWith mappedTo isChoice choices strays
     settle called look fault release colours pairUp moveAll recolour triples run
-    supply cost colours-shared partStart partEnd rowsFrom partOf rowTests planTests
-    firstFrom firstTime arrivals need charge taskNeed timeInPart taskTime vcpuCharge vcpuNeed vcpuTime timeTests admissionReply
+    supply cost heldFrom reloadedSet reloaded charge partStart partEnd rowsFrom partOf rowTests planTests
+    firstFrom firstTime arrivals need taskNeed timeInPart taskTime vcpuCharge vcpuNeed vcpuTime
+    colours-shared pairwiseNeed pairwiseTime timeTests admissionReply
     sameReply sameList numbers timeNumbers admissionNumbers holds allHold examples
 claim = refl

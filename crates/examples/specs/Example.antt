@@ -12,7 +12,9 @@ use Rattle.colours.specs.Cache.{cacheReply}
 use Rattle.colours.specs.Pages.{layoutReply, bleachReply, dropBits, equationOne}
 use Rattle.supply.specs.Supply.{supply}
 use Rattle.times.specs.First.{Time, At, Late}
+use Rattle.rows.specs.Reload.{reloaded}
 use Rattle.times.specs.Times.{taskTime, vcpuTime}
+use Rattle.times.specs.Pairwise.{pairwiseTime}
 use Rattle.admission.specs.Admission.{admissionReply}
 
 pub data Example : Type 0 where
@@ -37,6 +39,10 @@ pub data Example : Type 0 where
   Vcpu-time : List ℕ → ℕ → Time → Example
   -- reload, VCPU rows, task rows and a row of these: its time
   Task-time : ℕ → List ℕ → List ℕ → ℕ → Time → Example
+  -- task rows, a row and an earlier one: how many colours an arrival of this one reloads
+  Reloads : List ℕ → ℕ → ℕ → ℕ → Example
+  -- period and budget of a VCPU, reload, its task rows and one of them: its time by the pairwise rule
+  Pairwise-time : ℕ → ℕ → ℕ → List ℕ → ℕ → Time → Example
   -- board, reload, VCPU rows, task rows and the length of the list of times: the reply
   Admission : Board → ℕ → List ℕ → List ℕ → ℕ → Reply (Unit {0}) → Example
 
@@ -86,6 +92,8 @@ holds (Table-after s h t) = sameList (run s h .table) t
 holds (Supply p q t x) = eqb (supply p q t) x
 holds (Vcpu-time vcpus i time) = sameList (timeNumbers (vcpuTime vcpus i)) (timeNumbers time)
 holds (Task-time reload vcpus tasks j time) = sameList (timeNumbers (taskTime reload vcpus tasks j)) (timeNumbers time)
+holds (Reloads tasks i j n) = eqb (reloaded tasks i j) n
+holds (Pairwise-time p q reload part i time) = sameList (timeNumbers (pairwiseTime p q reload part i)) (timeNumbers time)
 holds (Admission b reload vcpus tasks room r) =
     sameList (admissionNumbers (admissionReply b reload vcpus tasks room)) (admissionNumbers r)
 

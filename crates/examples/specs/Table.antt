@@ -1,4 +1,5 @@
--- The examples of document 01 marked m, in its order, the recorder's accident, the plan of `admit`, and the worked examples of document 004.
+-- The examples of document 01 marked m, in its order, those of document 02, the recorder's accident, the plan of `admit`, and the worked
+-- examples of document 004.
 use Prim.Native.Nat.{ℕ}
 use mathlib.Core.List.{List, [], _∷_, _++_}
 use Rattle.refusal.specs.Reply.{Answers, Refuses}
@@ -7,7 +8,7 @@ use Rattle.calls.specs.Table.{State}
 use Rattle.calls.specs.Calls.{New, Moved}
 use Rattle.isolation.specs.DomainRule.{Call, Fault, Recolour}
 use Rattle.times.specs.First.{At}
-use Rattle.examples.specs.Example.{Example, Cache, Layout, Bleach, Drop, Equation, Reply-after, Moves-of, Table-after, Supply, Vcpu-time, Task-time, Admission}
+use Rattle.examples.specs.Example.{Example, Cache, Layout, Bleach, Drop, Equation, Reply-after, Moves-of, Table-after, Supply, Vcpu-time, Task-time, Reloads, Pairwise-time, Admission}
 
 abbrev pub sets : List ℕ
 sets = 0x3 ∷ 0xC ∷ 0 ∷ 0 ∷ 0 ∷ 0 ∷ 0 ∷ 0 ∷ []
@@ -53,6 +54,10 @@ three-tasks c = task 10000 10000 0x1 4000 ++ (task 10000 10000 0x2 4000 ++ task 
 abbrev pub two-tasks : ℕ → List ℕ
 two-tasks c = task 4000 4000 0x3 1000 ++ task 10000 10000 0x6 c
 
+-- sets 0x1, 0x1 and 0x2: three costs of 1,000
+abbrev pub nested-tasks : List ℕ
+nested-tasks = task 10000 10000 0x1 1000 ++ (task 10000 10000 0x1 1000 ++ task 10000 10000 0x2 1000)
+
 unfoldable pub examples : List Example
 examples =
     Cache 1048576 16 (Answers 16)
@@ -83,6 +88,11 @@ examples =
     ∷ Task-time 100 whole-core (two-tasks 2500) 1 (At 3600)
     ∷ Task-time 100 whole-core (two-tasks 3000) 1 (At 5200)
     ∷ Task-time 0 whole-core (two-tasks 3000) 1 (At 4000)
+    -- document 02, No. 3: the third task shares no colour with the first, but the second does; the pairwise rule forgot that
+    ∷ Reloads nested-tasks 2 0 1
+    ∷ Reloads nested-tasks 2 1 0
+    ∷ Task-time 100 whole-core nested-tasks 2 (At 3100)
+    ∷ Pairwise-time 10000 10000 100 nested-tasks 2 (At 3000)
     -- of the recorder's accident, beyond document 01: each of the three tasks that are refused together above is admitted alone
     ∷ Admission planned 0 whole-core (task 10000 10000 0x1 4000) 2 (Answers tt)
     ∷ Admission planned 0 whole-core (task 10000 10000 0x2 4000) 2 (Answers tt)
