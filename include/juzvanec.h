@@ -40,7 +40,7 @@ extern "C" {
  *     if (juzvanec_interface() != JUZVANEC_INTERFACE)
  *         do not boot
  */
-#define JUZVANEC_INTERFACE 1u
+#define JUZVANEC_INTERFACE 2u
 
 /* Limits. */
 #define JUZVANEC_MOST_COLOURS 16u

@@ -1,6 +1,6 @@
 -- The colours reloaded, one by one: the union of sets has the colours that one of them has, and an intersection those that both have.
-use Prim.Native.Nat.{ℕ, zero, suc, _+_, _-_, _/_, _%_, _^_, _<_, _≤_, min, max}
-use native.Mathlib.Nat.{lt-of-le-of-lt, zero-div, le-trans}
+use Prim.Native.Nat.{ℕ, zero, suc, _+_, _-_, _/_, _%_, _^_, _<_, min, max}
+use native.Mathlib.Nat.{lt-of-le-of-lt, zero-div}
 use native.Mathlib.Omega.{arith}
 use mathlib.Core.Bool.{Bool, true, false, _&&_, _||_}
 use mathlib.Core.List.{List}
@@ -15,7 +15,8 @@ use Rattle.lists.proofs.Filter.{same-kept}
 use Rattle.colours.specs.Sets.{has, coloursBelow, placeOf}
 use Rattle.colours.proofs.Bits.{size-ones}
 use Rattle.rows.specs.RowWords.{colourSet}
-use Rattle.rows.specs.Reload.{heldFrom, reloadedSet, reloaded}
+use Rattle.rows.specs.Reload.{heldFrom, reloaded}
+use Rattle.rows.proofs.Charging.{reloaded-is}
 
 abbrev bit : ℕ → ℕ → ℕ
 bit s c = s / 2 ^ c % 2
@@ -47,11 +48,12 @@ pub reloaded-counts :
     (n : ℕ) (tasks : List ℕ) (i j : ℕ) → colourSet tasks j < 2 ^ n
     → reloaded tasks i j
     ≡ length (keep (λ (c : ℕ). has (colourSet tasks j) c && any (λ (k : ℕ). has (colourSet tasks k) c) (from (suc j) (i - j))) (upto n))
-unfolding reloaded reloadedSet placeOf coloursBelow
+unfolding placeOf coloursBelow
 reloaded-counts n tasks i j h =
     let own : ℕ = colourSet tasks j in
     let held : ℕ = heldFrom tasks (suc j) (i - j) in
-    sym (size-ones n (bitAnd own held) (lt-of-le-of-lt (and-le-l own held) h))
+    reloaded-is tasks i j
+    ∙ sym (size-ones n (bitAnd own held) (lt-of-le-of-lt (and-le-l own held) h))
     ∙ ap length
     (same-kept (has (bitAnd own held)) (λ (c : ℕ). has own c && any (λ (k : ℕ). has (colourSet tasks k) c) (from (suc j) (i - j))) n
     (λ c l. has-and own held c ∙ ap (λ (b : Bool). has own c && b) (has-held tasks c (i - j) (suc j))))

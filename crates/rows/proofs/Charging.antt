@@ -6,7 +6,7 @@ use native.Mathlib.Omega.{arith}
 use mathlib.Core.Bool.{true, false}
 use mathlib.Core.List.{List}
 use mathlib.Core.Path.{_≡_, refl, sym, ap, ap₂, _∙_}
-use lib.Bits.{bitAnd, bitOr, or-zero-r}
+use lib.Bits.{bitAnd, bitOr, and-comm, or-zero-r}
 use lib.Count.{ones}
 use lib.ListN.{length, getD, set, replicate, getD-replicate, length-set, List·getD-eq-default}
 use lib.Seq.{ext-getD, getD-set-same, getD-set-other}
@@ -16,6 +16,19 @@ use Rattle.lists.proofs.Split.{below-or-not}
 use Rattle.lists.proofs.Written.{length-table, table-entry}
 use Rattle.rows.specs.RowWords.{colourSet, cost}
 use Rattle.rows.specs.Reload.{heldFrom, reloadedSet, reloaded, charge, plannedRow, charges}
+
+-- the colours reloaded, by any wording of the definition that means this
+pub reloaded-is : (tasks : List ℕ) (i j : ℕ) → reloaded tasks i j ≡ ones (bitAnd (colourSet tasks j) (heldFrom tasks (suc j) (i - j)))
+unfolding reloaded reloadedSet
+reloaded-is tasks i j =
+    let next : suc j ≡ j + 1 = omega arith in
+    let again : suc j ≡ 1 + j = omega arith in
+    cc (next, again, and-comm (colourSet tasks j) (heldFrom tasks (suc j) (i - j)))
+
+charge-is : (reload : ℕ) (tasks : List ℕ) (i j : ℕ)
+    → charge reload tasks i j ≡ cost tasks j + reload * ones (bitAnd (colourSet tasks j) (heldFrom tasks (suc j) (i - j)))
+unfolding charge
+charge-is reload tasks i j = ap (λ (n : ℕ). cost tasks j + reload * n) (reloaded-is tasks i j)
 
 -- no charge is written yet
 abbrev none : List ℕ
@@ -58,10 +71,10 @@ module _ (reload : ℕ) (tasks : List ℕ) (i : ℕ) where
         rest = λ k l. none-yet k;
       }
 
-  pub charging-next : {held j : ℕ} {found : List ℕ} → Charging held j found → (m x : ℕ) → m + 1 ≡ j
-      → x ≡ cost tasks m + reload * ones (bitAnd (colourSet tasks m) held) → Charging (bitOr (colourSet tasks m) held) m (set found m x)
-  unfolding heldFrom charge reloaded reloadedSet
-  charging-next {held} {j} {found} c m x e is =
+  pub charging-next : {held j : ℕ} {found : List ℕ} → Charging held j found → (m x held′ : ℕ) → m + 1 ≡ j
+      → x ≡ cost tasks m + reload * ones (bitAnd (colourSet tasks m) held) → held′ ≡ bitOr (colourSet tasks m) held → Charging held′ m (set found m x)
+  unfolding heldFrom
+  charging-next {held} {j} {found} c m x held′ e is grown =
       let first : j ≡ suc m = omega arith in
       let many : suc (row - j) ≡ row - m = omega (arith, c .down) in
       let held-is : held ≡ heldFrom tasks (suc m) (row - m) = c .union ∙ ap₂ (heldFrom tasks) first many in
@@ -69,12 +82,12 @@ module _ (reload : ℕ) (tasks : List ℕ) (i : ℕ) where
       record {
         down = omega (arith, c .down);
         few = c .few;
-        union = ap (bitOr (colourSet tasks m)) held-is;
+        union = grown ∙ ap (bitOr (colourSet tasks m)) held-is;
         room = length-set found m x ∙ c .room;
         passed = λ k a b.
             below-or-not m k
             (λ l. other k (λ q. lt-irrefl k (omega arith)) ∙ c .passed k (omega arith) b)
-            (λ l. let same : k ≡ m = omega arith in rw same (getD-set-same found m x 0 (omega (arith, c .room, c .down, c .few)) ∙ is ∙ rw held-is refl));
+            (λ l. let same : k ≡ m = omega arith in rw same (getD-set-same found m x 0 (omega (arith, c .room, c .down, c .few)) ∙ is ∙ rw held-is (sym (charge-is reload tasks row m))));
         rest = λ k l. other k (λ q. lt-irrefl k (omega (arith, c .down))) ∙ c .rest k l;
       }
 

@@ -10,13 +10,19 @@ use crate::TASK_SET;
 use crate::words::cost;
 use crate::words::task_word;
 
+// How many colours of a task's set are among those held.
+fn reloaded(tasks: &[u32], row: u32, held: u32) -> u32
+    ensures { λ r. ⌜ r ≡ ones (bitAnd (colourSet (now (tasks .entry)) row) held) ⌝ }
+{
+    u32::count_ones(task_word(tasks, row, TASK_SET) & held)
+}
+
 // An arrival of a task, where the tasks that it makes reload hold these colours: its cost, and the reload
-// of each colour that they hold and it holds too.
+// of each colour that it holds too.
 fn charge(reload: u32, tasks: &[u32], row: u32, held: u32) -> u64
     ensures { λ r. ⌜ r ≡ costOf (now (tasks .entry)) row + reload * ones (bitAnd (colourSet (now (tasks .entry)) row) held) ⌝ }
 {
-    let reloaded = u32::count_ones(task_word(tasks, row, TASK_SET) & held);
-    cost(tasks, row) as u64 + reload as u64 * (reloaded as u64)
+    cost(tasks, row) as u64 + reload as u64 * (reloaded(tasks, row, held) as u64)
 }
 
 // A row that a plan may have, or row 0, which no row comes before.

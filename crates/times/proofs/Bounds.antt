@@ -13,9 +13,9 @@ use Rattle.lists.proofs.Split.{cases}
 use Rattle.supply.specs.Supply.{supply, firstSupply, Budget}
 use Rattle.supply.proofs.Laws.{first-le, le-supply, le-first}
 use Rattle.rows.specs.RowWords.{core, vcpuPeriod, budget, taskPeriod, colourSet, cost, vcpuRows, taskRows}
-use Rattle.rows.specs.Reload.{heldFrom, reloadedSet, reloaded, charge, charges}
+use Rattle.rows.specs.Reload.{heldFrom, reloaded, charge, charges}
 use Rattle.times.specs.Times.{need, taskNeed, vcpuCharge, vcpuNeed}
-use Rattle.rows.proofs.Charging.{charge-kept}
+use Rattle.rows.proofs.Charging.{reloaded-is, charge-kept}
 use Rattle.rows.specs.Valid.{TaskRow, Tasks, VcpuRow, Vcpus}
 use Rattle.times.proofs.Search.{Searchable}
 use Rattle.times.proofs.Needs.{need-mono, own-le, need-le, need-same}
@@ -31,8 +31,7 @@ ones-and =
     omega (arith, low, rw half at (ones-step (bitAnd a b)), ones-step a, ih (b / 2)))
 
 pub reloaded-le : (part : List ℕ) (i j : ℕ) → TaskRow part j → reloaded part i j ≤ 16
-unfolding reloaded reloadedSet
-reloaded-le part i j r = le-trans (ones-and (colourSet part j) (heldFrom part (suc j) (i - j))) (r .colours-high)
+reloaded-le part i j r = rw (reloaded-is part i j) (le-trans (ones-and (colourSet part j) (heldFrom part (suc j) (i - j))) (r .colours-high))
 
 pub charge-le : (reload : ℕ) (part : List ℕ) (i j : ℕ) → reload ≤ 10000 → TaskRow part j → charge reload part i j ≤ 1160000
 unfolding charge

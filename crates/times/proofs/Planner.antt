@@ -14,7 +14,8 @@ use Rattle.lists.proofs.Split.{below-or-not}
 use Rattle.supply.specs.Supply.{supply, Budget}
 use Rattle.supply.proofs.Laws.{supply-budget}
 use Rattle.rows.specs.RowWords.{vcpuPeriod, taskWord, taskPeriod, deadline, colourSet, cost}
-use Rattle.rows.specs.Reload.{heldFrom, reloadedSet, reloaded, charge}
+use Rattle.rows.specs.Reload.{heldFrom, reloaded, charge}
+use Rattle.rows.proofs.Charging.{reloaded-is}
 use Rattle.times.specs.First.{Time, At, Late, firstTime, NoLater}
 use Rattle.times.specs.Times.{arrivals, need, taskNeed, timeInPart, vcpuNeed, vcpuTime}
 use Rattle.times.proofs.Search.{first-same, told-first, told-none}
@@ -99,8 +100,8 @@ module _ (part more : List ℕ) (i : ℕ) (whole : 20 * i + 20 ≤ length part) 
   held-stays (suc n) k h = rw (set-stays k (omega arith), held-stays n (suc k) (omega arith))
 
   reloaded-stays : (j : ℕ) → j < i → reloaded (part ++ more) i j ≡ reloaded part i j
-  unfolding reloaded reloadedSet
-  reloaded-stays j h = rw (set-stays j (omega arith), held-stays (i - j) (suc j) (omega arith))
+  reloaded-stays j h =
+      reloaded-is (part ++ more) i j ∙ rw (set-stays j (omega arith), held-stays (i - j) (suc j) (omega arith)) (sym (reloaded-is part i j))
 
   pub later-tasks-change-nothing : (p q reload : ℕ) → ((j : ℕ) → j ≤ i → ones (colourSet part j) ≤ 16)
       → timeInPart p q reload (part ++ more) i ≡ timeInPart p q reload part i

@@ -13,7 +13,8 @@ use borrow.Author.Tests.{leb-true, le-leb}
 use Rattle.lists.proofs.Split.{below-or-not}
 use Rattle.supply.specs.Supply.{supply}
 use Rattle.rows.specs.RowWords.{taskPeriod, deadline, colourSet, cost}
-use Rattle.rows.specs.Reload.{heldFrom, reloadedSet, reloaded, charge}
+use Rattle.rows.specs.Reload.{heldFrom, reloaded, charge}
+use Rattle.rows.proofs.Charging.{reloaded-is}
 use Rattle.times.specs.First.{NoLater}
 use Rattle.times.specs.Times.{taskNeed, timeInPart}
 use Rattle.times.specs.Pairwise.{colours-shared, pairwiseNeed, pairwiseTime}
@@ -46,8 +47,8 @@ row-in-union tasks x m (suc n) k l h =
 
 -- the task in question, or one between
 pub shared-are-reloaded : (part : List ℕ) (i j k : ℕ) → j < k → k ≤ i → colours-shared part k j ≤ reloaded part i j
-unfolding colours-shared reloaded reloadedSet
-shared-are-reloaded part i j k h l = row-in-union part (colourSet part j) k (i - j) (suc j) h (omega arith)
+unfolding colours-shared
+shared-are-reloaded part i j k h l = rw (reloaded-is part i j) (row-in-union part (colourSet part j) k (i - j) (suc j) h (omega arith))
 
 pub no-earlier-than-pairwise : (p q reload : ℕ) (part : List ℕ) (i : ℕ) → NoLater (timeInPart p q reload part i) (pairwiseTime p q reload part i)
 unfolding timeInPart pairwiseTime taskNeed pairwiseNeed charge

@@ -1,7 +1,7 @@
 -- `rows::arrival::charges` meets its contract, by the laws of going down from row i (`Charging`).
 use Prim.Native.Nat.{ℕ, _+_, _-_, _≤_, _<_}
 use native.Mathlib.Omega.{arith}
-use mathlib.Core.Path.{_≡_}
+use lib.Bits.{or-comm}
 use borrow.Author.Needs.{needs}
 use Rattle.rows.proofs.Charging.{Charging, charging-start, charging-next, charging-end}
 use Rattle.rows.proofs.arrival.charges.Statement.{statement}
@@ -57,7 +57,8 @@ loop-again c =
     let d = turn (c .before) in
     let a = entry d .args in
     let h = d .before .loop in
-    rw (c .task-word2 .ensures) (charging-next (a .reload) (a .tasks .now) (a .i) (h .inv) (h .j - 1) (c .before .charge .result) (omega arith) (c .before .charge .ensures))
+    charging-next (a .reload) (a .tasks .now) (a .i) (h .inv) (h .j - 1) (c .before .charge .result) _ (omega arith) (c .before .charge .ensures)
+    (cc (c .task-word2 .ensures, or-comm (c .task-word2 .result) (h .held)))
 
 returns : tie.Need-returns Inv-loop μ-loop
 returns c = let a = c .before .before .before .before .before .args in charging-end (a .reload) (a .tasks .now) (a .i) (c .before .loop .inv) (omega arith)
