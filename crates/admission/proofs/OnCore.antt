@@ -1,5 +1,5 @@
 -- The loop that keeps the VCPUs of a core: one of the core adds an entry, one of another core adds nothing to the need.
-use Prim.Native.Nat.{ℕ, _+_, _*_, _<_, _≤_}
+use Prim.Native.Nat.{ℕ, _+_, _*_, _<_}
 use native.Mathlib.Nat.{lt-irrefl, le-refl, le-trans}
 use native.Mathlib.Omega.{arith}
 use mathlib.Core.List.{List}
@@ -12,7 +12,7 @@ use Rattle.rows.specs.RowWords.{core, vcpuPeriod, budget}
 use Rattle.rows.specs.Valid.{VcpuRow}
 use Rattle.times.specs.Times.{arrivals, need, vcpuCharge, vcpuNeed}
 use Rattle.times.proofs.Needs.{need-next, need-same}
-use Rattle.admission.specs.Earlier.{Within, OnCore}
+use Rattle.admission.specs.Earlier.{OnCore}
 
 module _ (vcpus : List ℕ) (i : ℕ) where
   -- the need over the first n rows

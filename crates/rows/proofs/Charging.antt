@@ -1,9 +1,8 @@
 -- The loop that goes down from row i: the union of the sets passed is that of the row it has come to and of those after it, up to row i, so
 -- that the charges written are those of the definition.
 use Prim.Native.Nat.{ℕ, suc, _+_, _-_, _*_, _<_, _≤_}
-use native.Mathlib.Nat.{lt-irrefl, le-refl, zero-add}
+use native.Mathlib.Nat.{lt-irrefl, zero-add}
 use native.Mathlib.Omega.{arith}
-use mathlib.Core.Bool.{true, false}
 use mathlib.Core.List.{List}
 use mathlib.Core.Path.{_≡_, refl, sym, ap, ap₂, _∙_}
 use lib.Bits.{bitAnd, bitOr, and-comm, or-zero-r}
@@ -11,7 +10,6 @@ use lib.Count.{ones}
 use lib.ListN.{length, getD, set, replicate, getD-replicate, length-set, List·getD-eq-default}
 use lib.Seq.{ext-getD, getD-set-same, getD-set-other}
 use borrow.Author.Tests.{lt-ltb, le-ltb}
-use Rattle.lists.specs.Range.{upto}
 use Rattle.lists.proofs.Split.{below-or-not}
 use Rattle.lists.proofs.Written.{length-table, table-entry}
 use Rattle.rows.specs.RowWords.{colourSet, cost}

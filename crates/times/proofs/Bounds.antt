@@ -1,5 +1,5 @@
 -- Tasks and VCPUs: the bounds of charges and needs, what a search keeps, and that the search serves both.
-use Prim.Native.Nat.{ℕ, suc, _+_, _-_, _*_, _/_, _%_, _<_, _≤_}
+use Prim.Native.Nat.{ℕ, suc, _-_, _/_, _%_, _<_, _≤_}
 use native.Mathlib.Nat.{le-refl, le-trans, mul-le-mul, mul-le-mul-left, mul-le-mul-right}
 use native.Mathlib.Omega.{arith}
 use mathlib.Core.List.{List}
@@ -7,16 +7,14 @@ use mathlib.Core.Path.{_≡_, refl}
 use lib.Arith.{bin-ind}
 use lib.Bits.{bitAnd, and-step, and-zero-l}
 use lib.Count.{ones, ones-step}
-use lib.Dec.{eqb}
 use lib.ListN.{getD}
-use Rattle.lists.proofs.Split.{cases}
 use Rattle.supply.specs.Supply.{supply, firstSupply, Budget}
 use Rattle.supply.proofs.Laws.{first-le, le-supply, le-first}
-use Rattle.rows.specs.RowWords.{core, vcpuPeriod, budget, taskPeriod, colourSet, cost, vcpuRows, taskRows}
+use Rattle.rows.specs.RowWords.{vcpuPeriod, budget, taskPeriod, colourSet, cost, vcpuRows, taskRows}
 use Rattle.rows.specs.Reload.{heldFrom, reloaded, charge, charges}
 use Rattle.times.specs.Times.{need, taskNeed, vcpuCharge, vcpuNeed}
 use Rattle.rows.proofs.Charging.{reloaded-is, charge-kept}
-use Rattle.rows.specs.Valid.{TaskRow, Tasks, VcpuRow, Vcpus}
+use Rattle.rows.specs.Valid.{TaskRow, Tasks, Vcpus}
 use Rattle.times.proofs.Search.{Searchable}
 use Rattle.times.proofs.Needs.{need-mono, own-le, need-le, need-same}
 

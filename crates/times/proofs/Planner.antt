@@ -1,7 +1,7 @@
 -- What a planner relies on: what a reported time says, and that lowering a cost, the reload or the colours reloaded, or raising the
 -- VCPU's budget, never makes a task's time later; a task added at the end changes no other task's time.
 use Prim.Native.Nat.{ℕ, zero, suc, _+_, _-_, _*_, _<_, _≤_}
-use native.Mathlib.Nat.{le-refl, le-trans, add-le-add, mul-le-mul, mul-le-mul-left}
+use native.Mathlib.Nat.{le-refl, le-trans, add-le-add, mul-le-mul}
 use native.Mathlib.Omega.{arith}
 use mathlib.Core.Bool.{Bool, true, true≢false}
 use mathlib.Core.List.{List, _++_}
@@ -17,7 +17,7 @@ use Rattle.rows.specs.RowWords.{vcpuPeriod, taskWord, taskPeriod, deadline, col
 use Rattle.rows.specs.Reload.{heldFrom, reloaded, charge}
 use Rattle.rows.proofs.Charging.{reloaded-is}
 use Rattle.times.specs.First.{Time, At, Late, firstTime, NoLater}
-use Rattle.times.specs.Times.{arrivals, need, taskNeed, timeInPart, vcpuNeed, vcpuTime}
+use Rattle.times.specs.Times.{taskNeed, timeInPart, vcpuNeed, vcpuTime}
 use Rattle.times.proofs.Search.{first-same, told-first, told-none}
 use Rattle.times.proofs.Needs.{need-less, need-same}
 

@@ -1,10 +1,10 @@
 -- Document 02, No. 3 is on the safe side: an arrival reloads at least the colours that it shares with any one task up to the task in question,
 -- so that no time is earlier than by the pairwise rule.
-use Prim.Native.Nat.{ℕ, zero, suc, _+_, _-_, _*_, _/_, _%_, _<_, _≤_, min, max, zero-le}
+use Prim.Native.Nat.{ℕ, zero, suc, _+_, _-_, _*_, _/_, _%_, _<_, _≤_, min, max}
 use native.Mathlib.Nat.{le-refl, le-trans, lt-irrefl, add-le-add, mul-le-mul-left, max-le, le-max-left}
 use native.Mathlib.Omega.{arith}
 use mathlib.Core.List.{List}
-use mathlib.Core.Path.{_≡_, refl, ap, _∙_}
+use mathlib.Core.Path.{_≡_, refl, _∙_}
 use lib.Arith.{bin-ind}
 use lib.Bits.{bitAnd, bitOr, and-step, or-step, or-shr, or-comm}
 use lib.Count.{ones, ones-step}

@@ -1,10 +1,9 @@
 -- `admission::need::core_rows` meets its contract, by the laws of entries for the VCPUs of a core (`OnCore`).
-use Prim.Native.Nat.{ℕ, _+_, _-_, _<_, _≤_}
+use Prim.Native.Nat.{ℕ, _-_, _<_, _≤_}
 use native.Mathlib.Omega.{arith}
 use mathlib.Core.Logic.{⊎-elim}
 use mathlib.Core.Path.{_≡_, refl, sym, subst, _∙_}
 use lib.ListN.{length, length-set}
-use Rattle.rows.specs.RowWords.{core as coreOf}
 use borrow.Author.Needs.{needs}
 use Rattle.admission.specs.Earlier.{OnCore}
 use Rattle.admission.proofs.OnCore.{on-core-start, on-core-hit, on-core-miss}

@@ -1,7 +1,7 @@
 -- `admission::search::vcpu_time` meets its contract: the search of a task, with t for the supply in t.
 use Prim.Native.Nat.{ℕ, _+_, _-_, _≤_}
 use native.Mathlib.Omega.{arith}
-use mathlib.Core.Path.{_≡_, sym, ap, _∙_}
+use mathlib.Core.Path.{_≡_, sym, _∙_}
 use Rattle.rows.specs.RowWords.{vcpuPeriod, budget}
 use Rattle.times.specs.Times.{vcpuNeed, vcpuTime}
 use Rattle.times.proofs.Search.{Searchable, Before, before-one, next, found, missed}

@@ -1,5 +1,5 @@
 -- `rows::arrival::charges` meets its contract, by the laws of going down from row i (`Charging`).
-use Prim.Native.Nat.{ℕ, _+_, _-_, _≤_, _<_}
+use Prim.Native.Nat.{_-_}
 use native.Mathlib.Omega.{arith}
 use lib.Bits.{or-comm}
 use borrow.Author.Needs.{needs}
