@@ -210,7 +210,8 @@ void juzvanec_part(const uint32_t *tasks, size_t task_words, uint32_t vcpu, size
 /*
  * Admits a plan on the board, without a frame table: writes the times of the VCPUs and then of the tasks,
  * in row order, to the front of the list of times, whose rest does not change. Reload is microseconds for
- * each colour. Refusals 2 to 7, 15 to 22.
+ * each colour: an arrival of a task is charged for every colour that it holds and that the task in
+ * question, or one ranked between the two on its VCPU, holds too. Refusals 2 to 7, 15 to 22.
  */
 uint32_t juzvanec_admit_plan(const struct juzvanec_board *board, uint32_t reload, const uint32_t *vcpus,
                              size_t vcpu_words, const uint32_t *tasks, size_t task_words,

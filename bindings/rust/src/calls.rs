@@ -283,18 +283,22 @@ pub fn part(tasks: &[u32], vcpu: u32) -> &[u32] {
 }
 
 /// Admits a plan: the times of the VCPUs and then of the tasks, in row order, go to the front of the list
-/// of times, whose rest does not change. Refusals 2 to 7, 15 to 22.
+/// of times, whose rest does not change. The reload is microseconds for each colour: an arrival of a task
+/// is charged for every colour that it holds and that the task in question, or one ranked between the two
+/// on its VCPU, holds too. Refusals 2 to 7, 15 to 22.
 ///
 /// ```
 /// use juzvanec::{admit_plan, Board, Task, Vcpu};
 ///
 /// let board = Board::new(16, 64, &[0xFF]);
 /// let vcpus = [Vcpu { core: 0, domain: 0, period: 10_000, budget: 10_000 }];
-/// let tasks = [Task { vcpu: 0, period: 4000, deadline: 4000, set: 0x3, costs: [1000; 16] }];
+/// let task = |set| Task { vcpu: 0, period: 10_000, deadline: 10_000, set, costs: [1000; 16] };
+/// let tasks = [task(0x1), task(0x1), task(0x2)];
 /// let (vcpus, tasks) = (Vcpu::words(&vcpus), Task::words(&tasks));
-/// let mut times = [0; 2];
+/// let mut times = [0; 4];
 /// assert_eq!(admit_plan(&board, 100, vcpus, tasks, &mut times), Ok(()));
-/// assert_eq!(times, [10_000, 1000]);
+/// // the third waits while the second reloads what the first took from it
+/// assert_eq!(times, [10_000, 1000, 2100, 3100]);
 /// ```
 #[inline]
 pub fn admit_plan(
