@@ -1,9 +1,9 @@
 -- Tasks and VCPUs: the bounds of charges and needs, what a search keeps, and that the search serves both.
-use Prim.Native.Nat.{ℕ, suc, _-_, _/_, _%_, _<_, _≤_}
+use Prim.Native.Nat.{ℕ, suc, _+_, _-_, _*_, _/_, _%_, _<_, _≤_}
 use native.Mathlib.Nat.{le-refl, le-trans, mul-le-mul, mul-le-mul-left, mul-le-mul-right}
 use native.Mathlib.Omega.{arith}
 use mathlib.Core.List.{List}
-use mathlib.Core.Path.{_≡_, refl}
+use mathlib.Core.Path.{_≡_, refl, sym}
 use lib.Arith.{bin-ind}
 use lib.Bits.{bitAnd, and-step, and-zero-l}
 use lib.Count.{ones, ones-step}
@@ -12,11 +12,11 @@ use Rattle.supply.specs.Supply.{supply, firstSupply, Budget}
 use Rattle.supply.proofs.Laws.{first-le, le-supply, le-first}
 use Rattle.rows.specs.RowWords.{vcpuPeriod, budget, taskPeriod, colourSet, cost, vcpuRows, taskRows}
 use Rattle.rows.specs.Reload.{heldFrom, reloaded, charge, charges}
-use Rattle.times.specs.Times.{need, taskNeed, vcpuCharge, vcpuNeed}
+use Rattle.times.specs.Times.{arrivals, need, taskNeed, vcpuCharge, vcpuNeed}
 use Rattle.rows.proofs.Charging.{reloaded-is, charge-kept}
 use Rattle.rows.specs.Valid.{TaskRow, Tasks, Vcpus}
 use Rattle.times.proofs.Search.{Searchable}
-use Rattle.times.proofs.Needs.{need-mono, own-le, need-le, need-same}
+use Rattle.times.proofs.Needs.{need-mono, own-le, need-next, need-le, need-same}
 
 -- no more colours are in two sets than in one of them
 pub ones-and : (a b : ℕ) → ones (bitAnd a b) ≤ ones a
@@ -35,12 +35,14 @@ pub charge-le : (reload : ℕ) (part : List ℕ) (i j : ℕ) → reload ≤ 1000
 unfolding charge
 charge-le reload part i j h r = omega (arith, r .cost-high, mul-le-mul h (reloaded-le part i j r))
 
--- a need over 32 rows at most, with charges of at most 1,160,000, fits in 64 bits
-pub need-fits : (own : ℕ) (period charged : ℕ → ℕ) (m n t : ℕ) → own ≤ 1000000 → t ≤ 1000000 → m ≤ n → n ≤ 32 → ((j : ℕ) → j < n → charged j ≤ 1160000)
-    → need own period charged m t ≤ 38000000000000
-need-fits own period charged m n t ho ht hm hn few =
-    let b = need-le own period charged 1160000 m t (λ j k. few j (omega arith)) in
-    omega (arith, b, mul-le-mul-left m (mul-le-mul-right 1160000 ht))
+-- a sum of need with one row more: over 32 rows at most, with charges of at most 1,160,000, it fits in 64 bits
+pub need-added : (own : ℕ) (period charged : ℕ → ℕ) (m n t sum term : ℕ) → own ≤ 1000000 → t ≤ 1000000 → m < n → n ≤ 32
+    → ((j : ℕ) → j < n → charged j ≤ 1160000) → sum ≡ need own period charged m t → term ≡ arrivals t (period m) * charged m
+    → (sum + term ≡ need own period charged (m + 1) t) × (sum + term ≤ 38000000000000)
+need-added own period charged m n t sum term ho ht hm hn few e f =
+    let added : sum + term ≡ need own period charged (m + 1) t = rw (e, f) (sym (need-next own period charged m t)) in
+    let b = need-le own period charged 1160000 (m + 1) t (λ j k. few j (omega arith)) in
+    (added, omega (arith, added, b, mul-le-mul-left (m + 1) (mul-le-mul-right 1160000 ht)))
 
 -- what a search of a task keeps, its cost and the charges of the rows before it, gives its need
 module _ (reload : ℕ) (part : List ℕ) (i own : ℕ) (charged : List ℕ) (own-is : own ≡ cost part i) (charged-is : charged ≡ charges reload part i) where

@@ -2,13 +2,12 @@
 use Prim.Native.Nat.{ℕ, _+_, _-_, _*_, _<_, _≤_}
 use native.Mathlib.Omega.{arith}
 use mathlib.Core.List.{List}
-use mathlib.Core.Path.{_≡_, refl, sym, ap, ap₂, _∙_}
+use mathlib.Core.Path.{_≡_, refl, ap, _∙_}
 use lib.ListN.{getD}
 use Rattle.rows.specs.RowWords.{taskPeriod}
 use Rattle.rows.specs.Valid.{TaskRow}
 use Rattle.times.specs.Times.{need}
-use Rattle.times.proofs.Needs.{need-next}
-use Rattle.times.proofs.Bounds.{need-fits}
+use Rattle.times.proofs.Bounds.{need-added}
 use borrow.Author.Needs.{needs}
 use Rattle.admission.proofs.need.task_need.Statement.{statement}
 use Rattle.admission.proofs.need.task_need.Tie as tie
@@ -59,26 +58,21 @@ element-copy-out-sum : tie.Need-element-copy-out-sum Inv-loop μ-loop
 element-copy-out-sum c = below (turn c)
 
 -- the sum with one row more, and its bound
-next : (c : tie.After-arrivals Inv-loop μ-loop) → let a = entry (turn c) .args in let h = turn c .before .loop in
-    h .sum + c .arrivals .result * getD (a .charges .now) (h .j) 0 ≡ upto (a .own) (a .part .now) (a .charges .now) (a .t) (h .j + 1)
+next : (c : tie.After-arrivals Inv-loop μ-loop) → let a = entry (turn c) .args in let h = turn c .before .loop in let sum = h .sum + c .arrivals .result * getD (a .charges .now) (h .j) 0 in
+    (sum ≡ upto (a .own) (a .part .now) (a .charges .now) (a .t) (h .j + 1)) × (sum ≤ 38000000000000)
 next c =
-    let h = turn c .before .loop in
-    let term = rw (c .before .task-word .ensures) at (c .arrivals .ensures) in
-    ap₂ (λ (x y : ℕ). x + y) (h .inv .1) (ap (λ (x : ℕ). x * getD (entry (turn c) .args .charges .now) (h .j) 0) term) ∙ sym (need-next _ _ _ (h .j) _)
-
-next-le : (c : tie.After-arrivals Inv-loop μ-loop) → let a = entry (turn c) .args in let h = turn c .before .loop in
-    h .sum + c .arrivals .result * getD (a .charges .now) (h .j) 0 ≤ 38000000000000
-next-le c =
     let s = entry (turn c) in
     let a = s .args in
-    let bound = need-fits (a .own) (taskPeriod (a .part .now)) (λ (j : ℕ). getD (a .charges .now) j 0) (turn c .before .loop .j + 1) (a .i) (a .t) (s .pre .0) (s .pre .1) (omega arith) (omega (arith, s .pre .2 .few, s .pre .3)) (s .pre .4) in
-    omega (arith, next c, bound)
+    let h = turn c .before .loop in
+    let charged : ℕ → ℕ = λ j. getD (a .charges .now) j 0 in
+    need-added (a .own) (taskPeriod (a .part .now)) charged (h .j) (a .i) (a .t) _ _ (s .pre .0) (s .pre .1) (omega arith) (omega (arith, s .pre .2 .few, s .pre .3)) (s .pre .4) (h .inv .1)
+    (ap (λ (x : ℕ). x * charged (h .j)) (rw (c .before .task-word .ensures) at (c .arrivals .ensures)))
 
 mul-sum-2 : tie.Need-mul-sum-2 Inv-loop μ-loop
-mul-sum-2 c = omega (arith, next-le (c .before))
+mul-sum-2 c = omega (arith, next (c .before) .1)
 
 add-sum : tie.Need-add-sum Inv-loop μ-loop
-add-sum c = omega (arith, next-le (c .before))
+add-sum c = omega (arith, next (c .before) .1)
 
 add-j : tie.Need-add-j Inv-loop μ-loop
 add-j c = omega arith
@@ -87,7 +81,7 @@ loop-less : tie.Need-loop-less Inv-loop μ-loop
 loop-less c = omega arith
 
 loop-again : tie.Need-loop-again Inv-loop μ-loop
-loop-again c = (omega arith, next (c .before))
+loop-again c = (omega arith, next (c .before) .0)
 
 returns : tie.Need-returns Inv-loop μ-loop
 returns c =

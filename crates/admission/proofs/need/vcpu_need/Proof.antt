@@ -3,11 +3,10 @@ use Prim.Native.Nat.{ℕ, _+_, _-_, _*_, _<_, _≤_}
 use native.Mathlib.Nat.{le-trans}
 use native.Mathlib.Omega.{arith}
 use mathlib.Core.List.{List}
-use mathlib.Core.Path.{_≡_, refl, sym, ap, ap₂, _∙_}
+use mathlib.Core.Path.{_≡_, refl, ap, _∙_}
 use lib.ListN.{getD}
 use Rattle.times.specs.Times.{need}
-use Rattle.times.proofs.Needs.{need-next}
-use Rattle.times.proofs.Bounds.{need-fits}
+use Rattle.times.proofs.Bounds.{need-added}
 use Rattle.admission.specs.Earlier.{Within}
 use Rattle.admission.proofs.need.vcpu_need.Statement.{statement}
 use Rattle.admission.proofs.need.vcpu_need.Tie as tie
@@ -62,26 +61,21 @@ cast-sum : tie.Need-cast-sum Inv-loop μ-loop
 cast-sum c = omega (arith, here (turn (c .before)) .budget-high)
 
 -- the sum with one entry more, and its bound
-next : (c : tie.After-arrivals Inv-loop μ-loop) → let a = entry (turn c) .args in let h = turn c .before .loop in
-    h .sum + c .arrivals .result * getD (a .budgets .now) (h .j) 0 ≡ upto (a .own) (a .periods .now) (a .budgets .now) (a .t) (h .j + 1)
+next : (c : tie.After-arrivals Inv-loop μ-loop) → let a = entry (turn c) .args in let h = turn c .before .loop in let sum = h .sum + c .arrivals .result * getD (a .budgets .now) (h .j) 0 in
+    (sum ≡ upto (a .own) (a .periods .now) (a .budgets .now) (a .t) (h .j + 1)) × (sum ≤ 38000000000000)
 next c =
-    let h = turn c .before .loop in
-    ap₂ (λ (x y : ℕ). x + y) (h .inv .1) (ap (λ (x : ℕ). x * getD (entry (turn c) .args .budgets .now) (h .j) 0) (c .arrivals .ensures)) ∙ sym (need-next _ _ _ (h .j) _)
-
-next-le : (c : tie.After-arrivals Inv-loop μ-loop) → let a = entry (turn c) .args in let h = turn c .before .loop in
-    h .sum + c .arrivals .result * getD (a .budgets .now) (h .j) 0 ≤ 38000000000000
-next-le c =
     let s = entry (turn c) in
     let a = s .args in
-    let few : (j : ℕ) → j < a .count → getD (a .budgets .now) j 0 ≤ 1160000 = λ j l. le-trans (s .pre .3 j l .budget-high) (omega arith) in
-    let bound = need-fits (a .own) (λ (j : ℕ). getD (a .periods .now) j 0) (λ (j : ℕ). getD (a .budgets .now) j 0) (turn c .before .loop .j + 1) (a .count) (a .t) (s .pre .0) (s .pre .1) (omega arith) (omega (arith, s .pre .2)) few in
-    omega (arith, next c, bound)
+    let h = turn c .before .loop in
+    let charged : ℕ → ℕ = λ j. getD (a .budgets .now) j 0 in
+    need-added (a .own) (λ (j : ℕ). getD (a .periods .now) j 0) charged (h .j) (a .count) (a .t) _ _ (s .pre .0) (s .pre .1) (omega arith) (omega (arith, s .pre .2))
+    (λ j l. le-trans (s .pre .3 j l .budget-high) (omega arith)) (h .inv .1) (ap (λ (x : ℕ). x * charged (h .j)) (c .arrivals .ensures))
 
 mul-sum-2 : tie.Need-mul-sum-2 Inv-loop μ-loop
-mul-sum-2 c = omega (arith, next-le (c .before))
+mul-sum-2 c = omega (arith, next (c .before) .1)
 
 add-sum : tie.Need-add-sum Inv-loop μ-loop
-add-sum c = omega (arith, next-le (c .before))
+add-sum c = omega (arith, next (c .before) .1)
 
 add-j : tie.Need-add-j Inv-loop μ-loop
 add-j c = omega arith
@@ -90,7 +84,7 @@ loop-less : tie.Need-loop-less Inv-loop μ-loop
 loop-less c = omega arith
 
 loop-again : tie.Need-loop-again Inv-loop μ-loop
-loop-again c = (omega arith, next (c .before))
+loop-again c = (omega arith, next (c .before) .0)
 
 returns : tie.Need-returns Inv-loop μ-loop
 returns c =
