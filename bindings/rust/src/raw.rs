@@ -97,6 +97,8 @@ extern "C" {
         task_words: usize,
         times: *mut u32,
         times_words: usize,
+        rounds: *mut u32,
+        rounds_words: usize,
         row: *mut u32,
     ) -> u32;
 
