@@ -307,6 +307,7 @@ pub fn admit_plan(
     vcpus: &[u32],
     tasks: &[u32],
     times: &mut [u32],
+    rounds: &mut [u32],
 ) -> Result<(), Refusal> {
     see_interface();
     let mut row = 0;
@@ -322,6 +323,8 @@ pub fn admit_plan(
             tasks.len(),
             times.as_mut_ptr(),
             times.len(),
+            rounds.as_mut_ptr(),
+            rounds.len(),
             &mut row,
         )
     };
