@@ -1,6 +1,5 @@
 -- The laws of `admission`.
 pub mod Admits
-pub mod Fit
 pub mod OnCore
 pub mod Timing
 pub mod Written

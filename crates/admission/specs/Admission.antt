@@ -1,5 +1,6 @@
--- Admission of a plan: document 01, refusals 2 to 7 and 15 to 22 in order, and the lent list: the times of VCPUs, then of tasks, the rest as before.
-use Prim.Native.Nat.{ℕ}
+-- Admission of a plan: document 01, refusals 2 to 7 and 15 to 22 in order, and the two lent lists: the times of VCPUs, then of tasks, and their
+-- rounds (document 02, No. 9) in the same order, the rest as before.
+use Prim.Native.Nat.{ℕ, min}
 use mathlib.Core.Bool.{Bool, true, false}
 use mathlib.Core.List.{List, _++_, map}
 use lib.ListN.{length, drop}
@@ -11,6 +12,7 @@ use Rattle.rows.specs.RowWords.{vcpuRows, taskRows}
 use Rattle.plan.specs.Tests.{planTests}
 use Rattle.times.specs.First.{Time, At, Late}
 use Rattle.times.specs.Times.{taskTime, vcpuTime}
+use Rattle.times.specs.Rounds.{taskRounds, vcpuRounds}
 
 abbrev pub isLate : Time → Bool
 isLate (At t) = false
@@ -26,6 +28,10 @@ timeTests reload vcpus tasks =
     each (vcpuRows vcpus) 21 (λ (i : ℕ). isLate (vcpuTime vcpus i))
     ++ each (taskRows tasks) 22 (λ (j : ℕ). isLate (taskTime reload vcpus tasks j))
 
+-- the room of the lists of times and of rounds is that of the shorter
+abbrev pub room : List ℕ → List ℕ → ℕ
+room times rounds = min (length times) (length rounds)
+
 -- without a frame table, 3 is about F alone
 unfoldable pub admissionReply : Board → ℕ → List ℕ → List ℕ → ℕ → Reply (Unit {0})
 admissionReply b reload vcpus tasks room =
@@ -38,11 +44,22 @@ vcpuTimes vcpus = map (λ (i : ℕ). microseconds (vcpuTime vcpus i)) (upto (vcp
 unfoldable pub taskTimes : ℕ → List ℕ → List ℕ → List ℕ
 taskTimes reload vcpus tasks = map (λ (j : ℕ). microseconds (taskTime reload vcpus tasks j)) (upto (taskRows tasks))
 
--- the lent list after a reply
-abbrev pub listAfter : Reply (Unit {0}) → List ℕ → List ℕ → List ℕ
-listAfter (Answers a) times lent = times ++ drop (length times) lent
-listAfter (Refuses n r) times lent = lent
+unfoldable pub allTimes : ℕ → List ℕ → List ℕ → List ℕ
+allTimes reload vcpus tasks = vcpuTimes vcpus ++ taskTimes reload vcpus tasks
 
-unfoldable pub timesAfter : Board → ℕ → List ℕ → List ℕ → List ℕ → List ℕ
-timesAfter b reload vcpus tasks lent =
-    listAfter (admissionReply b reload vcpus tasks (length lent)) (vcpuTimes vcpus ++ taskTimes reload vcpus tasks) lent
+-- the rounds of all rows
+unfoldable pub allRounds : ℕ → List ℕ → List ℕ → List ℕ
+allRounds reload vcpus tasks = map (vcpuRounds vcpus) (upto (vcpuRows vcpus)) ++ map (taskRounds reload vcpus tasks) (upto (taskRows tasks))
+
+-- a lent list after a reply: the numbers at its front, or as it was
+abbrev pub listAfter : Reply (Unit {0}) → List ℕ → List ℕ → List ℕ
+listAfter (Answers a) numbers lent = numbers ++ drop (length numbers) lent
+listAfter (Refuses n r) numbers lent = lent
+
+unfoldable pub timesAfter : Board → ℕ → List ℕ → List ℕ → List ℕ → List ℕ → List ℕ
+timesAfter b reload vcpus tasks times rounds =
+    listAfter (admissionReply b reload vcpus tasks (room times rounds)) (allTimes reload vcpus tasks) times
+
+unfoldable pub roundsAfter : Board → ℕ → List ℕ → List ℕ → List ℕ → List ℕ → List ℕ
+roundsAfter b reload vcpus tasks times rounds =
+    listAfter (admissionReply b reload vcpus tasks (room times rounds)) (allRounds reload vcpus tasks) rounds

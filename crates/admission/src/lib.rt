@@ -1,21 +1,20 @@
-// Admission of a plan: document 01, "Plans", refusals 2 to 7 and 15 to 22 in order, and the times in
-// row order to a lent list. The need of a row and the search for its time are in `need` and `search`.
+// Admission of a plan: document 01, "Plans", refusals 2 to 7 and 15 to 22 in order, and the times and
+// their rounds (document 02, No. 9) in row order to two lent lists. The need of a row and the search for its time are in `need` and `search`.
 mod need;
 mod row_times;
 mod search;
 
 ghost use mathlib.Core.Path.{_≡_};
-ghost use mathlib.Core.List.{_++_};
-ghost use Prim.Native.Nat.{_+_, _≤_};
+ghost use Prim.Native.Nat.{_+_, _≤_, min};
 ghost use lib.ListN.{length};
 ghost use Rattle.refusal.specs.Reply.{unless};
 ghost use Rattle.rows.specs.RowWords.{vcpuRows, taskRows};
 ghost use Rattle.rows.specs.Valid.{Plan};
-ghost use Rattle.admission.specs.Admission.{timeTests, admissionReply, vcpuTimes, taskTimes, listAfter, timesAfter};
+ghost use Rattle.admission.specs.Admission.{timeTests, room, admissionReply, allTimes, allRounds, listAfter, timesAfter, roundsAfter};
 ghost use Rattle.admission.specs.Paper.{paperAdmission};
 use crate::row_times::task_times;
 use crate::row_times::vcpu_times;
-use crate::row_times::write_times;
+use crate::row_times::write_front;
 use board::Board;
 use board::Checked;
 use board::check_board;
@@ -29,32 +28,48 @@ pub enum Admission {
     Refused(Refusal),
 }
 
-// The verdict on a plan. Admitted, the list holds the times of the VCPUs and then of the tasks;
-// refused, it is as it was.
+// The verdict on a plan. Admitted, one list holds the times of the VCPUs and then of the tasks, the other the
+// rounds in which they were found; refused, both are as they were.
 pub fn admit_plan(
     board: Board,
     reload: u32,
     vcpus: &[u32],
     tasks: &[u32],
     times: &mut [u32],
+    rounds: &mut [u32],
 ) -> Admission
-    ensures { λ r. ⌜ paperAdmission r ≡ admissionReply board reload (now (vcpus .entry)) (now (tasks .entry)) (length (now (times .entry))) ⌝ }
-    ensures { λ r. ⌜ now (times .exit) ≡ timesAfter board reload (now (vcpus .entry)) (now (tasks .entry)) (now (times .entry)) ⌝ }
+    ensures { λ r. ⌜ paperAdmission r ≡ admissionReply board reload (now (vcpus .entry)) (now (tasks .entry)) (room (now (times .entry)) (now (rounds .entry))) ⌝ }
+    ensures { λ r. ⌜ now (times .exit) ≡ timesAfter board reload (now (vcpus .entry)) (now (tasks .entry)) (now (times .entry)) (now (rounds .entry)) ⌝ }
+    ensures { λ r. ⌜ now (rounds .exit) ≡ roundsAfter board reload (now (vcpus .entry)) (now (tasks .entry)) (now (times .entry)) (now (rounds .entry)) ⌝ }
 {
     if let Checked::Refused(refusal) = check_board(board, board.frames as usize) {
         return Admission::Refused(refusal);
     }
-    if let Checked::Refused(refusal) = check_plan(board, reload, vcpus, tasks, times.len()) {
+    let room = shorter(times.len(), rounds.len());
+    if let Checked::Refused(refusal) = check_plan(board, reload, vcpus, tasks, room) {
         return Admission::Refused(refusal);
     }
-    admit_rows(reload, vcpus, tasks, times)
+    admit_rows(reload, vcpus, tasks, times, rounds)
+}
+
+fn shorter(a: usize, b: usize) -> usize
+    ensures { λ r. ⌜ r ≡ min a b ⌝ }
+{
+    if a < b { a } else { b }
 }
 
 // 21 and 22 of a plan that passes the rest.
-fn admit_rows(reload: u32, vcpus: &[u32], tasks: &[u32], times: &mut [u32]) -> Admission
-    requires { ⌜ Plan reload (now vcpus) (now tasks) × (vcpuRows (now vcpus) + taskRows (now tasks) ≤ length (now times)) ⌝ }
+fn admit_rows(
+    reload: u32,
+    vcpus: &[u32],
+    tasks: &[u32],
+    times: &mut [u32],
+    rounds: &mut [u32],
+) -> Admission
+    requires { ⌜ Plan reload (now vcpus) (now tasks) × (vcpuRows (now vcpus) + taskRows (now tasks) ≤ room (now times) (now rounds)) ⌝ }
     ensures { λ r. ⌜ paperAdmission r ≡ unless (timeTests reload (now (vcpus .entry)) (now (tasks .entry))) tt ⌝ }
-    ensures { λ r. ⌜ now (times .exit) ≡ listAfter (unless (timeTests reload (now (vcpus .entry)) (now (tasks .entry))) tt) (vcpuTimes (now (vcpus .entry)) ++ taskTimes reload (now (vcpus .entry)) (now (tasks .entry))) (now (times .entry)) ⌝ }
+    ensures { λ r. ⌜ now (times .exit) ≡ listAfter (unless (timeTests reload (now (vcpus .entry)) (now (tasks .entry))) tt) (allTimes reload (now (vcpus .entry)) (now (tasks .entry))) (now (times .entry)) ⌝ }
+    ensures { λ r. ⌜ now (rounds .exit) ≡ listAfter (unless (timeTests reload (now (vcpus .entry)) (now (tasks .entry))) tt) (allRounds reload (now (vcpus .entry)) (now (tasks .entry))) (now (rounds .entry)) ⌝ }
 {
     let vcpu_rows = (vcpus.len() / VCPU_WORDS) as u32;
     let known = vcpu_times(vcpus, vcpu_rows);
@@ -65,15 +80,17 @@ fn admit_rows(reload: u32, vcpus: &[u32], tasks: &[u32], times: &mut [u32]) -> A
         });
     }
     let task_rows = (tasks.len() / TASK_WORDS) as u32;
-    let found = known.found;
-    let all = task_times(reload, vcpus, tasks, vcpu_rows, found);
+    let all = task_times(reload, vcpus, tasks, vcpu_rows, known);
     if all.late < task_rows {
         return Admission::Refused(Refusal {
             number: 22,
             row: all.late,
         });
     }
+    let rows = (vcpu_rows + task_rows) as usize;
     let found = all.found;
-    write_times(times, found, (vcpu_rows + task_rows) as usize);
+    write_front(times, found, rows);
+    let counts = all.rounds;
+    write_front(rounds, counts, rows);
     Admission::Admitted
 }

@@ -1,5 +1,5 @@
-// The times of all rows, VCPUs first, up to the first row that is late: document 01, refusals 21 and 22.
-// They are kept apart from the lent list until no row is late.
+// The times of all rows and their rounds, VCPUs first, up to the first row that is late: document 01, refusals
+// 21 and 22, and document 02, No. 9. They are kept apart from the lent lists until no row is late.
 ghost use mathlib.Core.Path.{_≡_};
 ghost use mathlib.Core.List.{[], _++_};
 ghost use Prim.Native.Nat.{_≤_, _<_};
@@ -8,9 +8,11 @@ ghost use Rattle.rows.specs.RowWords.{vcpuRows, taskRows, vcpuOf};
 ghost use Rattle.rows.specs.Part.{partStart};
 ghost use Rattle.rows.specs.Valid.{Vcpus, Plan};
 ghost use Rattle.times.specs.Times.{vcpuTime, taskTime as taskTimeOf};
+ghost use Rattle.times.specs.Rounds.{vcpuRounds, taskRounds};
 ghost use Rattle.admission.specs.Paper.{paperFound};
 ghost use Rattle.admission.specs.Timed.{Timed};
 use crate::search::Found;
+use crate::search::Search;
 use crate::search::time_in_part;
 use crate::search::vcpu_time;
 use rows::TASK_VCPU;
@@ -22,33 +24,47 @@ use rows::part_from;
 use rows::task_word;
 use rows::vcpu_word;
 
-// The first row that is late, or the number of rows; and the times found before it.
+// The first row that is late, or the number of rows; and the times and rounds found before it.
 pub(crate) struct Times {
     pub late: u32,
     pub found: [u32; 48],
+    pub rounds: [u32; 48],
 }
 
 pub(crate) fn vcpu_times(vcpus: &[u32], rows: u32) -> Times
     requires { ⌜ Vcpus (now vcpus) × (rows ≡ vcpuRows (now vcpus)) ⌝ }
-    ensures { λ r. ⌜ Timed (vcpuTime (now (vcpus .entry))) rows 0 [] (r .late) (r .found) ⌝ }
+    ensures { λ r. ⌜ Timed (vcpuTime (now (vcpus .entry))) (vcpuRounds (now (vcpus .entry))) rows 0 [] [] (r .late) (r .found) (r .rounds) ⌝ }
 {
     let mut found = [0u32; 48];
+    let mut rounds = [0u32; 48];
     let mut i: u32 = 0;
     while i < rows {
-        let Found::At(time) = vcpu_time(vcpus, i) else {
-            return Times { late: i, found };
+        let search = vcpu_time(vcpus, i);
+        let reached = search.found;
+        let Found::At(time) = reached else {
+            return Times {
+                late: i,
+                found,
+                rounds,
+            };
         };
         let k = i as usize;
         found[k] = time;
+        rounds[k] = search.rounds;
         i += 1;
     }
-    Times { late: i, found }
+    Times {
+        late: i,
+        found,
+        rounds,
+    }
 }
 
 // The time of a row of the task list, over the part of its VCPU alone, which starts at a known row.
-fn task_time(reload: u32, vcpus: &[u32], tasks: &[u32], start: usize, j: u32) -> Found
+fn task_time(reload: u32, vcpus: &[u32], tasks: &[u32], start: usize, j: u32) -> Search
     requires { ⌜ Plan reload (now vcpus) (now tasks) × (j < taskRows (now tasks)) × (start ≡ partStart (now tasks) (vcpuOf (now tasks) j)) ⌝ }
-    ensures { λ r. ⌜ paperFound r ≡ taskTimeOf reload (now (vcpus .entry)) (now (tasks .entry)) j ⌝ }
+    ensures { λ r. ⌜ paperFound (r .found) ≡ taskTimeOf reload (now (vcpus .entry)) (now (tasks .entry)) j ⌝ }
+    ensures { λ r. ⌜ r .rounds ≡ taskRounds reload (now (vcpus .entry)) (now (tasks .entry)) j ⌝ }
 {
     let v = task_word(tasks, j, TASK_VCPU);
     let own = part_from(tasks, start, v);
@@ -61,42 +77,54 @@ fn task_time(reload: u32, vcpus: &[u32], tasks: &[u32], start: usize, j: u32) ->
     )
 }
 
-// The tasks' times stand after the `first` that are known. Rows stand in ascending VCPU, so that the part
-// of a row is looked for from that of the row before.
+// The tasks' times and rounds stand after the `first` that are known. Rows stand in ascending VCPU, so that
+// the part of a row is looked for from that of the row before.
 pub(crate) fn task_times(
     reload: u32,
     vcpus: &[u32],
     tasks: &[u32],
     first: u32,
-    known: [u32; 48],
+    known: Times,
 ) -> Times
-    requires { ⌜ Plan reload (now vcpus) (now tasks) × (first ≤ 16) × (48 ≡ length known) ⌝ }
-    ensures { λ r. ⌜ Timed (taskTimeOf reload (now (vcpus .entry)) (now (tasks .entry))) (taskRows (now (tasks .entry))) first known (r .late) (r .found) ⌝ }
+    requires { ⌜ Plan reload (now vcpus) (now tasks) × (first ≤ 16) × (48 ≡ length (known .found)) × (48 ≡ length (known .rounds)) ⌝ }
+    ensures { λ r. ⌜ Timed (taskTimeOf reload (now (vcpus .entry)) (now (tasks .entry))) (taskRounds reload (now (vcpus .entry)) (now (tasks .entry))) (taskRows (now (tasks .entry))) first (known .found) (known .rounds) (r .late) (r .found) (r .rounds) ⌝ }
 {
     let rows = (tasks.len() / TASK_WORDS) as u32;
-    let mut found = known;
+    let mut found = known.found;
+    let mut rounds = known.rounds;
     let mut start = 0;
     let mut j: u32 = 0;
     while j < rows {
         start = next_own(tasks, start, task_word(tasks, j, TASK_VCPU));
-        let Found::At(time) = task_time(reload, vcpus, tasks, start, j) else {
-            return Times { late: j, found };
+        let search = task_time(reload, vcpus, tasks, start, j);
+        let reached = search.found;
+        let Found::At(time) = reached else {
+            return Times {
+                late: j,
+                found,
+                rounds,
+            };
         };
         let k = (first + j) as usize;
         found[k] = time;
+        rounds[k] = search.rounds;
         j += 1;
     }
-    Times { late: j, found }
+    Times {
+        late: j,
+        found,
+        rounds,
+    }
 }
 
-// The first `count` words of the lent list are those found.
-pub(crate) fn write_times(times: &mut [u32], found: [u32; 48], count: usize)
-    requires { ⌜ (count ≤ 48) × (count ≤ length (now times)) × (48 ≡ length found) ⌝ }
-    ensures { λ r. ⌜ now (times .exit) ≡ take count found ++ drop count (now (times .entry)) ⌝ }
+// The first `count` words of a lent list are those found.
+pub(crate) fn write_front(list: &mut [u32], words: [u32; 48], count: usize)
+    requires { ⌜ (count ≤ 48) × (count ≤ length (now list)) × (48 ≡ length words) ⌝ }
+    ensures { λ r. ⌜ now (list .exit) ≡ take count words ++ drop count (now (list .entry)) ⌝ }
 {
     let mut k = 0;
     while k < count {
-        times[k] = found[k];
+        list[k] = words[k];
         k += 1;
     }
 }

@@ -18,6 +18,7 @@ use Rattle.rows.specs.Part.{partStart, partEnd, rowsFrom, partOf}
 use Rattle.plan.specs.Tests.{rowTests, planTests}
 use Rattle.times.specs.First.{firstFrom, firstTime}
 use Rattle.times.specs.Times.{arrivals, need, taskNeed, timeInPart, taskTime, vcpuCharge, vcpuNeed, vcpuTime}
+use Rattle.times.specs.Rounds.{covering, roundsFrom, rounds, roundsInPart, taskRounds, vcpuRounds, roundsBound, taskBound, vcpuBound}
 use Rattle.times.specs.Pairwise.{colours-shared, pairwiseNeed, pairwiseTime}
 use Rattle.admission.specs.Admission.{timeTests, admissionReply}
 use Rattle.examples.specs.Example.{sameReply, sameList, numbers, timeNumbers, admissionNumbers, holds, allHold}
@@ -31,6 +32,7 @@ unfolding
     settle called look fault release colours pairUp moveAll recolour triples run
     supply cost heldFrom reloadedSet reloaded charge partStart partEnd rowsFrom partOf rowTests planTests
     firstFrom firstTime arrivals need taskNeed timeInPart taskTime vcpuCharge vcpuNeed vcpuTime
+    covering roundsFrom rounds roundsInPart taskRounds vcpuRounds roundsBound taskBound vcpuBound
     colours-shared pairwiseNeed pairwiseTime timeTests admissionReply
     sameReply sameList numbers timeNumbers admissionNumbers holds allHold examples
 claim = refl

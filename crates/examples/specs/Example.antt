@@ -14,6 +14,7 @@ use Rattle.supply.specs.Supply.{supply}
 use Rattle.times.specs.First.{Time, At, Late}
 use Rattle.rows.specs.Reload.{reloaded}
 use Rattle.times.specs.Times.{taskTime, vcpuTime}
+use Rattle.times.specs.Rounds.{taskRounds, vcpuRounds, taskBound, vcpuBound}
 use Rattle.times.specs.Pairwise.{pairwiseTime}
 use Rattle.admission.specs.Admission.{admissionReply}
 
@@ -39,6 +40,10 @@ pub data Example : Type 0 where
   Vcpu-time : List ℕ → ℕ → Time → Example
   -- reload, VCPU rows, task rows and a row of these: its time
   Task-time : ℕ → List ℕ → List ℕ → ℕ → Time → Example
+  -- VCPU rows and a row: the rounds of its search, and their bound
+  Vcpu-rounds : List ℕ → ℕ → ℕ → ℕ → Example
+  -- reload, VCPU rows, task rows and a row of these: the rounds of its search, and their bound
+  Task-rounds : ℕ → List ℕ → List ℕ → ℕ → ℕ → ℕ → Example
   -- task rows, a row and an earlier one: how many colours an arrival of this one reloads
   Reloads : List ℕ → ℕ → ℕ → ℕ → Example
   -- period and budget of a VCPU, reload, its task rows and one of them: its time by the pairwise rule
@@ -92,6 +97,8 @@ holds (Table-after s h t) = sameList (run s h .table) t
 holds (Supply p q t x) = eqb (supply p q t) x
 holds (Vcpu-time vcpus i time) = sameList (timeNumbers (vcpuTime vcpus i)) (timeNumbers time)
 holds (Task-time reload vcpus tasks j time) = sameList (timeNumbers (taskTime reload vcpus tasks j)) (timeNumbers time)
+holds (Vcpu-rounds vcpus i n most) = eqb (vcpuRounds vcpus i) n && eqb (vcpuBound vcpus i) most
+holds (Task-rounds reload vcpus tasks j n most) = eqb (taskRounds reload vcpus tasks j) n && eqb (taskBound tasks j) most
 holds (Reloads tasks i j n) = eqb (reloaded tasks i j) n
 holds (Pairwise-time p q reload part i time) = sameList (timeNumbers (pairwiseTime p q reload part i)) (timeNumbers time)
 holds (Admission b reload vcpus tasks room r) =

@@ -8,7 +8,7 @@ use Rattle.calls.specs.Table.{State}
 use Rattle.calls.specs.Calls.{New, Moved}
 use Rattle.isolation.specs.DomainRule.{Call, Fault, Recolour}
 use Rattle.times.specs.First.{At}
-use Rattle.examples.specs.Example.{Example, Cache, Layout, Bleach, Drop, Equation, Reply-after, Moves-of, Table-after, Supply, Vcpu-time, Task-time, Reloads, Pairwise-time, Admission}
+use Rattle.examples.specs.Example.{Example, Cache, Layout, Bleach, Drop, Equation, Reply-after, Moves-of, Table-after, Supply, Vcpu-time, Task-time, Vcpu-rounds, Task-rounds, Reloads, Pairwise-time, Admission}
 
 abbrev pub sets : List ℕ
 sets = 0x3 ∷ 0xC ∷ 0 ∷ 0 ∷ 0 ∷ 0 ∷ 0 ∷ 0 ∷ []
@@ -93,6 +93,20 @@ examples =
     ∷ Reloads nested-tasks 2 1 0
     ∷ Task-time 100 whole-core nested-tasks 2 (At 3100)
     ∷ Pairwise-time 10000 10000 100 nested-tasks 2 (At 3000)
+    -- document 02, No. 9, in document 01's examples by the millisecond: the round that ends the search counts, at the time or past the deadline, and with
+    -- cost 1 under full supply it is the only one
+    ∷ Vcpu-rounds (vcpu 10 10) 0 2 2
+    ∷ Task-rounds 0 (vcpu 10 10) (task 10 10 0x1 1) 0 1 2
+    ∷ Task-rounds 0 (vcpu 10 10) (task 10 10 0x1 2) 0 2 2
+    ∷ Task-rounds 0 (vcpu 5 3) (task 10 7 0x1 3) 0 2 2
+    ∷ Task-rounds 0 (vcpu 10 10) (task 10 10 0x1 4 ++ (task 10 10 0x2 4 ++ task 10 10 0x4 3)) 2 1 2
+    -- the reload of a shared colour, by the tenth of a millisecond: 1, 41 and 52
+    ∷ Task-rounds 1 (vcpu 100 100) (task 40 40 0x3 10 ++ task 100 100 0x6 30) 1 3 4
+    -- an earlier row that takes 9 of every 10 microseconds: the bound is reached
+    ∷ Vcpu-rounds (vcpu 10 9 ++ vcpu 100 10) 1 11 11
+    ∷ Task-rounds 0 (vcpu 100 100) (task 10 10 0x1 9 ++ task 100 100 0x2 10) 1 11 11
+    -- 10 of every 10: late, after as many rounds as the deadline has microseconds
+    ∷ Task-rounds 0 (vcpu 100 100) (task 1 1 0x1 1 ++ task 100 20 0x2 1) 1 20 21
     -- of the recorder's accident, beyond document 01: each of the three tasks that are refused together above is admitted alone
     ∷ Admission planned 0 whole-core (task 10000 10000 0x1 4000) 2 (Answers tt)
     ∷ Admission planned 0 whole-core (task 10000 10000 0x2 4000) 2 (Answers tt)

@@ -3,7 +3,7 @@ ghost use mathlib.Core.Path.{_≡_};
 ghost use Prim.Native.Nat.{_*_};
 ghost use lib.ListN.{length as lengthOf};
 ghost use Rattle.rows.specs.Part.{partStart, partOf};
-ghost use Rattle.admission.specs.Admission.{admissionReply, timesAfter};
+ghost use Rattle.admission.specs.Admission.{room, admissionReply, timesAfter, roundsAfter};
 ghost use Rattle.marshal.specs.BoardWords.{boardOf};
 ghost use Rattle.marshal.specs.Replies.{numberOf, rowOf};
 use marshal::admitted;
@@ -20,7 +20,8 @@ pub extern "C" fn juzvanec_part(tasks: &[u32], vcpu: u32, start: &mut usize, len
     *length = part.len();
 }
 
-// The verdict on a plan. Admitted, `times` holds the times of the VCPUs and then of the tasks.
+// The verdict on a plan. Admitted, `times` holds the times of the VCPUs and then of the tasks, and `rounds`
+// those in which each was found.
 #[no_mangle]
 pub extern "C" fn juzvanec_admit_plan(
     board: &[u32; 19],
@@ -28,13 +29,22 @@ pub extern "C" fn juzvanec_admit_plan(
     vcpus: &[u32],
     tasks: &[u32],
     times: &mut [u32],
+    rounds: &mut [u32],
     row: &mut u32,
 ) -> u32
-    ensures { λ r. ⌜ r ≡ numberOf (admissionReply (boardOf (now (board .entry))) reload (now (vcpus .entry)) (now (tasks .entry)) (lengthOf (now (times .entry)))) ⌝ }
-    ensures { λ _. ⌜ now (row .exit) ≡ rowOf (admissionReply (boardOf (now (board .entry))) reload (now (vcpus .entry)) (now (tasks .entry)) (lengthOf (now (times .entry)))) ⌝ }
-    ensures { λ _. ⌜ now (times .exit) ≡ timesAfter (boardOf (now (board .entry))) reload (now (vcpus .entry)) (now (tasks .entry)) (now (times .entry)) ⌝ }
+    ensures { λ r. ⌜ r ≡ numberOf (admissionReply (boardOf (now (board .entry))) reload (now (vcpus .entry)) (now (tasks .entry)) (room (now (times .entry)) (now (rounds .entry)))) ⌝ }
+    ensures { λ _. ⌜ now (row .exit) ≡ rowOf (admissionReply (boardOf (now (board .entry))) reload (now (vcpus .entry)) (now (tasks .entry)) (room (now (times .entry)) (now (rounds .entry)))) ⌝ }
+    ensures { λ _. ⌜ now (times .exit) ≡ timesAfter (boardOf (now (board .entry))) reload (now (vcpus .entry)) (now (tasks .entry)) (now (times .entry)) (now (rounds .entry)) ⌝ }
+    ensures { λ _. ⌜ now (rounds .exit) ≡ roundsAfter (boardOf (now (board .entry))) reload (now (vcpus .entry)) (now (tasks .entry)) (now (times .entry)) (now (rounds .entry)) ⌝ }
 {
-    let told = admitted(admission::admit_plan(board_of(board), reload, vcpus, tasks, times));
+    let told = admitted(admission::admit_plan(
+        board_of(board),
+        reload,
+        vcpus,
+        tasks,
+        times,
+        rounds,
+    ));
     *row = told.row;
     told.number
 }

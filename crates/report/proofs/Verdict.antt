@@ -11,7 +11,7 @@ use borrow.Author.Tests.{lt-ltb, le-ltb, ltb-false, eq-eqb, ne-eqb, eqb-true, no
 use Rattle.lists.proofs.Split.{cases, neither}
 use Rattle.refusal.specs.Reply.{Reply, Answers, Refuses, test, unless}
 use Rattle.refusal.proofs.Replies.{answers-passed, passed-first}
-use Rattle.admission.specs.Admission.{admissionReply, vcpuTimes, taskTimes, timesAfter}
+use Rattle.admission.specs.Admission.{room, admissionReply, vcpuTimes, taskTimes, allTimes, timesAfter}
 use Rattle.admission.proofs.Written.{length-vcpu-times, length-task-times}
 use Rattle.report.specs.Input.{domainCount, vcpuCount, taskCount, planWords, overLimit, boardOf, reloadOf, vcpusOf, tasksOf}
 use Rattle.report.specs.Text.{line, refusedName, admittedLines}
@@ -123,27 +123,32 @@ module _ (input : List ℕ) where
     unfolding textOf
     admitted-text e = rw (as-judged ∙ e)
 
+    -- two lists of 48 words have that room
+    pub roomy : (lent rounds : List ℕ) → length lent ≡ 48 → length rounds ≡ 48
+        → admissionReply (boardOf input) (reloadOf input) (vcpusOf input) (tasksOf input) (room lent rounds) ≡ judged
+    roomy lent rounds h g =
+        let both : room lent rounds ≡ 48 = omega (arith, h, g) in
+        ap (λ (n : ℕ). admissionReply (boardOf input) (reloadOf input) (vcpusOf input) (tasksOf input) n) both
+
     -- the times in front of the list are those of VCPUs and then of tasks
-    times-read : (lent times : List ℕ) → length lent ≡ 48 → judged ≡ Answers tt
-        → times ≡ timesAfter (boardOf input) (reloadOf input) (vcpusOf input) (tasksOf input) lent
+    times-read : (lent rounds times : List ℕ) → length lent ≡ 48 → length rounds ≡ 48 → judged ≡ Answers tt
+        → times ≡ timesAfter (boardOf input) (reloadOf input) (vcpusOf input) (tasksOf input) lent rounds
         → (take (vcpuCount input) times ≡ vcpuTimes (vcpusOf input)) × (take (taskCount input) (drop (vcpuCount input) times) ≡ taskTimes (reloadOf input) (vcpusOf input) (tasksOf input))
-    unfolding timesAfter
-    times-read lent times h e t =
+    unfolding timesAfter allTimes
+    times-read lent rounds times h g e t =
         let vcpus : List ℕ = vcpuTimes (vcpusOf input) in
         let tasks : List ℕ = taskTimes (reloadOf input) (vcpusOf input) (tasksOf input) in
         let rest : List ℕ = drop (length (vcpus ++ tasks)) lent in
-        let room : admissionReply (boardOf input) (reloadOf input) (vcpusOf input) (tasksOf input) (length lent) ≡ Answers tt =
-        ap (λ (n : ℕ). admissionReply (boardOf input) (reloadOf input) (vcpusOf input) (tasksOf input) n) h ∙ e in
-        let all : times ≡ vcpus ++ (tasks ++ rest) = t ∙ rw room (append-assoc vcpus tasks rest) in (
+        let all : times ≡ vcpus ++ (tasks ++ rest) = t ∙ rw (roomy lent rounds h g ∙ e) (append-assoc vcpus tasks rest) in (
           ap (λ (l : List ℕ). take (vcpuCount input) l) all ∙ take-at vcpus (tasks ++ rest) (vcpuCount input) vcpu-lines,
           ap (λ (l : List ℕ). take (taskCount input) (drop (vcpuCount input) l)) all
               ∙ ap (λ (l : List ℕ). take (taskCount input) l) (drop-at vcpus (tasks ++ rest) (vcpuCount input) vcpu-lines)
               ∙ take-at tasks rest (taskCount input) task-lines,
         )
 
-    pub times-told : (lent times : List ℕ) (v t : ℕ) → length lent ≡ 48 → judged ≡ Answers tt
-        → times ≡ timesAfter (boardOf input) (reloadOf input) (vcpusOf input) (tasksOf input) lent
+    pub times-told : (lent rounds times : List ℕ) (v t : ℕ) → length lent ≡ 48 → length rounds ≡ 48 → judged ≡ Answers tt
+        → times ≡ timesAfter (boardOf input) (reloadOf input) (vcpusOf input) (tasksOf input) lent rounds
         → v ≡ vcpuCount input → t ≡ taskCount input → admittedLines (take v times) (take t (drop v times)) ≡ textOf input
-    times-told lent times v t h e w hv ht =
-        let read = times-read lent times h e w in
+    times-told lent rounds times v t h g e w hv ht =
+        let read = times-read lent rounds times h g e w in
         rw (hv, ht, read .0, read .1) (sym (admitted-text e))

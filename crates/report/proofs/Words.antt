@@ -7,7 +7,7 @@ use lib.ListN.{length, take, drop, getD, replicate}
 use lib.Seq.{length-take-le}
 use Rattle.lists.proofs.Written.{length-table, table-entry}
 use Rattle.board.specs.declared.Board.{Board}
-use Rattle.admission.specs.Admission.{admissionReply, timesAfter}
+use Rattle.admission.specs.Admission.{admissionReply, timesAfter, roundsAfter}
 use Rattle.report.specs.Input.{word, words, domainCount, vcpuCount, taskCount, grants, boardOf, reloadOf, vcpusOf, tasksOf}
 
 pub length-words : (input : List ℕ) (n k : ℕ) → length (words input k n) ≡ n
@@ -60,5 +60,8 @@ module _ (input : List ℕ) (b : Board) (reload : ℕ) (vcpus tasks : List ℕ) 
   pub same-reply : (room : ℕ) → admissionReply b reload vcpus tasks room ≡ admissionReply (boardOf input) (reloadOf input) (vcpusOf input) (tasksOf input) room
   same-reply room = rw (hb, hr, hv, ht)
 
-  pub same-times : (lent : List ℕ) → timesAfter b reload vcpus tasks lent ≡ timesAfter (boardOf input) (reloadOf input) (vcpusOf input) (tasksOf input) lent
-  same-times lent = rw (hb, hr, hv, ht)
+  pub same-times : (times rounds : List ℕ) → timesAfter b reload vcpus tasks times rounds ≡ timesAfter (boardOf input) (reloadOf input) (vcpusOf input) (tasksOf input) times rounds
+  same-times times rounds = rw (hb, hr, hv, ht)
+
+  pub same-rounds : (times rounds : List ℕ) → roundsAfter b reload vcpus tasks times rounds ≡ roundsAfter (boardOf input) (reloadOf input) (vcpusOf input) (tasksOf input) times rounds
+  same-rounds times rounds = rw (hb, hr, hv, ht)

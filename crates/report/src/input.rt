@@ -2,7 +2,7 @@
 ghost use mathlib.Core.Path.{_≡_};
 ghost use Prim.Native.Nat.{_<_, _≤_};
 ghost use lib.ListN.{length, getD, replicate};
-ghost use Rattle.admission.specs.Admission.{admissionReply, timesAfter};
+ghost use Rattle.admission.specs.Admission.{room, admissionReply, timesAfter, roundsAfter};
 ghost use Rattle.admission.specs.Paper.{paperAdmission};
 ghost use Rattle.report.specs.Input.{word as wordOf, words as wordsOf, domainCount, vcpuCount, taskCount, boardOf, reloadOf, vcpusOf, tasksOf};
 use admission::Admission;
@@ -81,6 +81,13 @@ fn task_space() -> [u32; 640]
     [0; 640]
 }
 
+// A word for each row.
+pub(crate) fn row_space() -> [u32; 48]
+    ensures { λ r. ⌜ 48 ≡ length r ⌝ }
+{
+    [0; 48]
+}
+
 fn no_grants() -> [u32; 8]
     ensures { λ r. ⌜ r ≡ replicate 8 0 ⌝ }
 {
@@ -102,13 +109,20 @@ fn read_board(input: &[u8], domains: usize) -> Board
     }
 }
 
-// Admission of the plan that the input holds, where its counts are within their limits.
-pub(crate) fn judge(input: &[u8], rows: Rows, times: &mut [u32]) -> Admission
+// Admission of the plan that the input holds, where its counts are within their limits. The program prints
+// no rounds.
+pub(crate) fn judge(
+    input: &[u8],
+    rows: Rows,
+    times: &mut [u32],
+    rounds: &mut [u32],
+) -> Admission
     requires { ⌜ (rows .domains ≡ domainCount (now input)) × (rows .domains ≤ 8) ⌝ }
     requires { ⌜ (rows .vcpus ≡ vcpuCount (now input)) × (rows .vcpus ≤ 16) ⌝ }
     requires { ⌜ (rows .tasks ≡ taskCount (now input)) × (rows .tasks ≤ 32) ⌝ }
-    ensures { λ r. ⌜ paperAdmission r ≡ admissionReply (boardOf (now (input .entry))) (reloadOf (now (input .entry))) (vcpusOf (now (input .entry))) (tasksOf (now (input .entry))) (length (now (times .entry))) ⌝ }
-    ensures { λ r. ⌜ now (times .exit) ≡ timesAfter (boardOf (now (input .entry))) (reloadOf (now (input .entry))) (vcpusOf (now (input .entry))) (tasksOf (now (input .entry))) (now (times .entry)) ⌝ }
+    ensures { λ r. ⌜ paperAdmission r ≡ admissionReply (boardOf (now (input .entry))) (reloadOf (now (input .entry))) (vcpusOf (now (input .entry))) (tasksOf (now (input .entry))) (room (now (times .entry)) (now (rounds .entry))) ⌝ }
+    ensures { λ r. ⌜ now (times .exit) ≡ timesAfter (boardOf (now (input .entry))) (reloadOf (now (input .entry))) (vcpusOf (now (input .entry))) (tasksOf (now (input .entry))) (now (times .entry)) (now (rounds .entry)) ⌝ }
+    ensures { λ r. ⌜ now (rounds .exit) ≡ roundsAfter (boardOf (now (input .entry))) (reloadOf (now (input .entry))) (vcpusOf (now (input .entry))) (tasksOf (now (input .entry))) (now (times .entry)) (now (rounds .entry)) ⌝ }
 {
     let domains = rows.domains;
     let board = read_board(input, domains);
@@ -121,5 +135,5 @@ pub(crate) fn judge(input: &[u8], rows: Rows, times: &mut [u32]) -> Admission
     let mut second = task_space();
     let tasks = &mut second[..task_words];
     read_words(input, 6 + domains + vcpu_words, tasks);
-    admit_plan(board, reload, vcpus, tasks, times)
+    admit_plan(board, reload, vcpus, tasks, times, rounds)
 }

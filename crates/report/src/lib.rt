@@ -16,6 +16,7 @@ ghost use Rattle.report.specs.Report.{extentReply, notAPlan, verdict, wo
 ghost use Rattle.report.specs.Text.{over};
 use crate::input::count_rows;
 use crate::input::judge;
+use crate::input::row_space;
 use crate::text::write_admitted;
 use crate::text::write_refused;
 use admission::Admission;
@@ -122,12 +123,6 @@ fn whole_plan(input: &[u8]) -> u32
     }
 }
 
-fn no_times() -> [u32; 48]
-    ensures { λ r. ⌜ 48 ≡ length r ⌝ }
-{
-    [0; 48]
-}
-
 fn report_plan(input: &[u8], words: u32, text: &mut [u8]) -> Reported
     requires { ⌜ (notAPlan (now input) ≡ false) × (words ≡ wordsTaken (now input)) × (1024 ≡ length (now text)) ⌝ }
     ensures { λ r. ⌜ paperAdmission (r .verdict) ≡ verdict (now (input .entry)) ⌝ }
@@ -135,8 +130,9 @@ fn report_plan(input: &[u8], words: u32, text: &mut [u8]) -> Reported
     ensures { λ r. ⌜ now (text .exit) ≡ over (textOf (now (input .entry))) (now (text .entry)) ⌝ }
 {
     let rows = count_rows(input);
-    let mut times = no_times();
-    let verdict = judge(input, rows, &mut times);
+    let mut times = row_space();
+    let mut rounds = row_space();
+    let verdict = judge(input, rows, &mut times, &mut rounds);
     let length = match verdict {
         Admission::Admitted => write_admitted(text, &times, rows.vcpus, rows.tasks),
         Admission::Refused(refusal) => write_refused(text, refusal.number, refusal.row),

@@ -1,7 +1,11 @@
 -- The laws of need and of the search for a time.
 pub mod Search
+pub mod Counted
 pub mod Needs
 pub mod Bounds
+pub mod RoundsBound
 pub mod Planner
+pub mod Fit
+pub mod PlanRounds
 pub mod SafeSide
 pub mod Added

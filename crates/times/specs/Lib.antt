@@ -1,4 +1,5 @@
--- Need, and the first microsecond in which the supply covers it.
+-- Need, the first microsecond in which the supply covers it, and the rounds of the search for that.
 pub mod First
 pub mod Times
+pub mod Rounds
 pub mod Pairwise

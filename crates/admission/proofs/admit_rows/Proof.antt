@@ -8,19 +8,23 @@ use Rattle.refusal.specs.Reply.{Answers, unless}
 use Rattle.rows.specs.RowWords.{vcpuRows}
 use Rattle.admission.specs.Admission.{timeTests}
 use Rattle.admission.proofs.Admits.{lateVcpu, time-reply}
-use Rattle.admission.proofs.Written.{refused, length-times, all-times}
+use Rattle.admission.proofs.Written.{refused, length-times, length-rounds, all-found}
 use Rattle.admission.proofs.admit_rows.Statement.{statement}
 use Rattle.admission.proofs.admit_rows.Tie as tie
 
 -- the places where no VCPU and no task is late, and the entry
 abbrev entry : tie.Else1 → tie.Start
-entry c = c .before .before .before .before .before .before
+entry c = c .before .before .before .before .before .before .before
 
 abbrev in-tasks : tie.Else2 → tie.Else1
-in-tasks c = c .before .before .before .before
+in-tasks c = c .before .before .before
 
-abbrev at-end : tie.After-write-times → tie.Else2
-at-end c = c .before .before .before
+abbrev at-end : tie.After-write-front2 → tie.Else2
+at-end c = c .before .before .before .before .before .before .before .before
+
+-- the list of times was written before that of rounds
+abbrev first : tie.After-write-front2 → tie.After-write-front
+first c = c .before .before .before .before .before
 
 passes-21 : (c : tie.Else1) → let a = entry c .args in ltb (lateVcpu (a .reload) (a .vcpus .now) (a .tasks .now)) (vcpuRows (a .vcpus .now)) ≡ false
 passes-21 c = rw (← c .before .before .vcpu-times .ensures .late) (le-ltb _ _ (c .if1 .left))
@@ -32,7 +36,7 @@ vcpu-times-requires : tie.Need-vcpu-times-requires
 vcpu-times-requires c κs = search needs
 
 returns : tie.Need-returns
-returns c = refused _ _ _ _ _ (rw (time-reply _ _ _, ← c .before .before .vcpu-times .ensures .late, lt-ltb _ _ (c .if1 .taken)))
+returns c = refused _ _ _ _ _ _ _ (rw (time-reply _ _ _, ← c .before .before .vcpu-times .ensures .late, lt-ltb _ _ (c .if1 .taken)))
 
 cast-task-rows : tie.Need-cast-task-rows
 cast-task-rows c = search needs
@@ -42,32 +46,44 @@ task-times-requires c κs = search needs
 
 returns-2 : tie.Need-returns-2
 returns-2 c =
-    refused _ _ _ _ _
-    (rw (time-reply _ _ _, passes-21 (c .before .before .before .before), ← c .before .before .task-times .ensures .late, lt-ltb _ _ (c .if2 .taken)))
+    refused _ _ _ _ _ _ _
+    (rw (time-reply _ _ _, passes-21 (c .before .before .before), ← c .before .before .task-times .ensures .late, lt-ltb _ _ (c .if2 .taken)))
 
-add-write-times : tie.Need-add-write-times
-add-write-times c = search needs
+add-rows : tie.Need-add-rows
+add-rows c = search needs
 
-cast-write-times : tie.Need-cast-write-times
-cast-write-times c = search needs
+cast-rows : tie.Need-cast-rows
+cast-rows c = search needs
 
-write-times-requires : tie.Need-write-times-requires
-write-times-requires c κs = search needs
+write-front-requires : tie.Need-write-front-requires
+write-front-requires c κs = search needs
+
+write-front-requires-2 : tie.Need-write-front-requires-2
+write-front-requires-2 c κs = search needs
 
 same-length : tie.Need-same-length
 same-length c = search needs
 
+same-length-2 : tie.Need-same-length-2
+same-length-2 c = search needs
+
 returns-3 : tie.Need-returns-3
 returns-3 c =
-    let w = at-end (c .before .before) in
+    let second = c .before .before in
+    let w = at-end second in
     let e = in-tasks w in
     let a = entry e .args in
     let v = e .before .before .vcpu-times .ensures in
     let t = w .before .before .task-times .ensures in
     let ok : unless {A = Unit {0}} (timeTests (a .reload) (a .vcpus .now) (a .tasks .now)) tt ≡ Answers tt =
     rw (time-reply _ _ _, passes-21 e, ← t .late, le-ltb _ _ (w .if2 .left)) in
-    let front = all-times (a .reload) (a .vcpus .now) (a .tasks .now) v (e .if1 .left) t (w .if2 .left) in
-    (sym ok, c .before .before .write-times .ensures ∙ rw (ok, front, length-times (a .reload) (a .vcpus .now) (a .tasks .now)))
+    let all = all-found (a .reload) (a .vcpus .now) (a .tasks .now) v (e .if1 .left) t (w .if2 .left) in (
+      sym ok,
+      (
+        first second .write-front .ensures ∙ rw (ok, all .0, length-times (a .reload) (a .vcpus .now) (a .tasks .now)),
+        second .write-front2 .ensures ∙ rw (ok, all .1, length-rounds (a .reload) (a .vcpus .now) (a .tasks .now)),
+      ),
+    )
 
 pub admit-rows-spec : {M : Type 1} → statement M
 admit-rows-spec =
@@ -79,8 +95,10 @@ admit-rows-spec =
     cast-task-rows
     task-times-requires
     returns-2
-    add-write-times
-    cast-write-times
-    write-times-requires
+    add-rows
+    cast-rows
+    write-front-requires
+    write-front-requires-2
     same-length
+    same-length-2
     returns-3)

@@ -6,7 +6,7 @@ use mathlib.Core.Path.{_≡_, ap₂, _∙_}
 use Rattle.rows.specs.RowWords.{vcpuOf}
 use Rattle.rows.specs.Part.{partFrom, partOf}
 use Rattle.rows.proofs.Parts.{part-at-start}
-use Rattle.admission.proofs.Fit.{Fit, fit, fit-read, time-read}
+use Rattle.times.proofs.Fit.{Fit, fit, fit-read, time-read, rounds-read}
 use borrow.Author.Needs.{needs}
 use Rattle.admission.proofs.row_times.task_time.Statement.{statement}
 use Rattle.admission.proofs.row_times.task_time.Tie as tie
@@ -62,8 +62,12 @@ returns : tie.Need-returns
 returns c =
     let d = c .before in
     let s = entry (begun d) in
-    c .time-in-part .ensures
-    ∙ time-read (s .args .vcpus .now) (s .args .tasks .now) _ (s .args .j) _ _ _ (s .args .start) (begun d .before .task-word .ensures) (d .before .vcpu-word .ensures) (d .vcpu-word2 .ensures) (own (begun d)) (s .pre .2) (s .args .reload)
+    let v = begun d .before .task-word .ensures in
+    let p = d .before .vcpu-word .ensures in
+    let q = d .vcpu-word2 .ensures in (
+      c .time-in-part .ensures .0 ∙ time-read (s .args .vcpus .now) (s .args .tasks .now) _ (s .args .j) _ _ _ (s .args .start) v p q (own (begun d)) (s .pre .2) (s .args .reload),
+      c .time-in-part .ensures .1 ∙ rounds-read (s .args .vcpus .now) (s .args .tasks .now) _ (s .args .j) _ _ _ (s .args .start) v p q (own (begun d)) (s .pre .2) (s .args .reload),
+    )
 
 pub task-time-spec : {M : Type 1} → statement M
 task-time-spec =

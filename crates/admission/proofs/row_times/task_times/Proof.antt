@@ -11,22 +11,23 @@ use Rattle.rows.specs.RowWords.{vcpuOf, taskRows}
 use Rattle.rows.specs.Part.{isRowOf, nextOwn, partStart}
 use Rattle.rows.proofs.Parts.{start-le, start-from, before-part}
 use Rattle.times.specs.Times.{taskTime}
+use Rattle.times.specs.Rounds.{taskRounds}
 use Rattle.admission.specs.Paper.{paperFound}
 use Rattle.admission.proofs.Timing.{Timing, timing-start, timing-next, timing-late, timing-end}
 use Rattle.admission.proofs.row_times.task_times.Statement.{statement}
 use Rattle.admission.proofs.row_times.task_times.Tie as tie
 
 abbrev Inv-loop : tie.InvT-loop
-Inv-loop reload vcpus tasks first rows found₀ start₀ j₀ found start j =
-    Timing (taskTime reload vcpus tasks) (taskRows tasks) first found₀ j found × (rows ≡ taskRows tasks)
+Inv-loop reload vcpus tasks first rows found₀ rounds₀ start₀ j₀ found rounds start j =
+    Timing (taskTime reload vcpus tasks) (taskRounds reload vcpus tasks) (taskRows tasks) first found₀ rounds₀ j found rounds × (rows ≡ taskRows tasks)
     × (start ≤ rows) × ((m : ℕ) → m < start → (k : ℕ) → j ≤ k → k < taskRows tasks → isRowOf tasks (vcpuOf tasks k) m ≡ false)
 
 abbrev μ-loop : tie.MeasureT-loop
-μ-loop reload vcpus tasks first rows found₀ start₀ j₀ found start j = rows - j
+μ-loop reload vcpus tasks first rows found₀ rounds₀ start₀ j₀ found rounds start j = rows - j
 
 -- the places: the entry and the turn of the loop, and the turn after its second call
 abbrev entry : tie.In-loop Inv-loop μ-loop → tie.Start Inv-loop μ-loop
-entry c = c .before .before .before .before
+entry c = c .before .before .before .before .before .before
 
 abbrev turn : tie.After-next-own Inv-loop μ-loop → tie.In-loop Inv-loop μ-loop
 turn c = c .before .before
@@ -35,7 +36,7 @@ cast-rows : tie.Need-cast-rows Inv-loop μ-loop
 cast-rows c = omega (arith, c .before .before .pre .0 .task-rows .few)
 
 loop-holds : tie.Need-loop-holds Inv-loop μ-loop
-loop-holds c = (timing-start _ _ _ _ _ refl (c .before .before .pre .2), refl, omega arith, λ m l. absurd (not-suc-le-zero l))
+loop-holds c = (timing-start _ _ _ _ _ _ _ _ refl (c .before .before .before .before .pre .2) refl (c .before .before .before .before .pre .3), refl, omega arith, λ m l. absurd (not-suc-le-zero l))
 
 task-word-requires : tie.Need-task-word-requires Inv-loop μ-loop
 task-word-requires c κs = search needs
@@ -55,8 +56,8 @@ starts c =
 task-time-requires : tie.Need-task-time-requires Inv-loop μ-loop
 task-time-requires c κs = (entry (turn c) .pre .0, omega arith, starts c)
 
-enum-known-time : tie.Need-enum-known-time Inv-loop μ-loop
-enum-known-time c = search needs
+enum-known-reached : tie.Need-enum-known-reached Inv-loop μ-loop
+enum-known-reached c = search needs
 
 enum-told : tie.Need-enum-told Inv-loop μ-loop
 enum-told c = search needs
@@ -64,7 +65,7 @@ enum-told c = search needs
 returns : tie.Need-returns Inv-loop μ-loop
 returns c =
     let d = c .before .before in
-    timing-late _ _ _ _ (turn (d .before) .before .loop .inv .0) (omega arith) (sym (d .task-time .ensures) ∙ ap paperFound (c .enum-told .given .1))
+    timing-late _ _ _ _ _ _ (turn (d .before) .before .loop .inv .0) (omega arith) (sym (d .task-time .ensures .0) ∙ ap paperFound (c .enum-told .given .1))
 
 add-k : tie.Need-add-k Inv-loop μ-loop
 add-k c = omega arith
@@ -77,6 +78,12 @@ mul-found c = omega arith
 
 array-write-found : tie.Need-array-write-found Inv-loop μ-loop
 array-write-found c = omega arith
+
+mul-rounds : tie.Need-mul-rounds Inv-loop μ-loop
+mul-rounds c = omega arith
+
+array-write-rounds : tie.Need-array-write-rounds Inv-loop μ-loop
+array-write-rounds c = omega arith
 
 add-j : tie.Need-add-j Inv-loop μ-loop
 add-j c = omega arith
@@ -91,14 +98,14 @@ loop-again c =
     let h = turn (d .before) .before .loop in
     let tasks : List ℕ = s .args .tasks .now in
     let at = starts (d .before) in (
-      timing-next _ _ _ _ _ _ refl (omega (arith, s .pre .0 .task-rows .few)) (h .inv .0) (omega arith) (sym (d .task-time .ensures) ∙ ap paperFound (c .before .time .given .1)),
+      timing-next _ _ _ _ _ _ _ _ _ refl (omega (arith, s .pre .0 .task-rows .few)) (h .inv .0) (omega arith) (sym (d .task-time .ensures .0) ∙ ap paperFound (c .before .reached .given .1)) (d .task-time .ensures .1),
       h .inv .1,
       omega (arith, at, start-le tasks (vcpuOf tasks (h .j))),
       (λ m l k g n. before-part tasks (s .pre .0 .ascending) (h .j) k m (omega arith) n (omega (arith, at, l))),
     )
 
 returns-2 : tie.Need-returns-2 Inv-loop μ-loop
-returns-2 c = timing-end _ _ _ _ (c .before .loop .inv .0) (omega arith)
+returns-2 c = timing-end _ _ _ _ _ _ (c .before .loop .inv .0) (omega arith)
 
 pub task-times-spec : {M : Type 1} → statement M
 task-times-spec =
@@ -111,13 +118,15 @@ task-times-spec =
     task-word-requires
     next-own-requires
     task-time-requires
-    enum-known-time
+    enum-known-reached
     enum-told
     returns
     add-k
     cast-k
     mul-found
     array-write-found
+    mul-rounds
+    array-write-rounds
     add-j
     loop-less
     loop-again

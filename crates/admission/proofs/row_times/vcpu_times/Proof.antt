@@ -6,25 +6,26 @@ use mathlib.Core.List.{[]}
 use mathlib.Core.Path.{refl, sym, ap, _∙_}
 use borrow.Author.Needs.{needs}
 use Rattle.times.specs.Times.{vcpuTime}
+use Rattle.times.specs.Rounds.{vcpuRounds}
 use Rattle.admission.specs.Paper.{paperFound}
 use Rattle.admission.proofs.Timing.{Timing, timing-start, timing-next, timing-late, timing-end}
 use Rattle.admission.proofs.row_times.vcpu_times.Statement.{statement}
 use Rattle.admission.proofs.row_times.vcpu_times.Tie as tie
 
 abbrev Inv-loop : tie.InvT-loop
-Inv-loop vcpus rows found₀ i₀ found i = Timing (vcpuTime vcpus) rows 0 [] i found
+Inv-loop vcpus rows found₀ rounds₀ i₀ found rounds i = Timing (vcpuTime vcpus) (vcpuRounds vcpus) rows 0 [] [] i found rounds
 
 abbrev μ-loop : tie.MeasureT-loop
-μ-loop vcpus rows found₀ i₀ found i = rows - i
+μ-loop vcpus rows found₀ rounds₀ i₀ found rounds i = rows - i
 
 loop-holds : tie.Need-loop-holds Inv-loop μ-loop
-loop-holds c = timing-start (vcpuTime (c .before .args .vcpus .now)) (c .before .args .rows) 0 [] _ refl refl
+loop-holds c = timing-start _ _ _ _ _ _ _ _ refl refl refl refl
 
 vcpu-time-requires : tie.Need-vcpu-time-requires Inv-loop μ-loop
 vcpu-time-requires c κs = (c .before .before .before .pre .0, omega arith)
 
-enum-known-time : tie.Need-enum-known-time Inv-loop μ-loop
-enum-known-time c = search needs
+enum-known-reached : tie.Need-enum-known-reached Inv-loop μ-loop
+enum-known-reached c = search needs
 
 enum-told : tie.Need-enum-told Inv-loop μ-loop
 enum-told c = search needs
@@ -32,7 +33,7 @@ enum-told c = search needs
 returns : tie.Need-returns Inv-loop μ-loop
 returns c =
     let d = c .before .before in
-    timing-late _ _ _ _ (d .before .before .loop .inv) (omega arith) (sym (d .vcpu-time .ensures) ∙ ap paperFound (c .enum-told .given .1))
+    timing-late _ _ _ _ _ _ (d .before .before .loop .inv) (omega arith) (sym (d .vcpu-time .ensures .0) ∙ ap paperFound (c .enum-told .given .1))
 
 cast-k : tie.Need-cast-k Inv-loop μ-loop
 cast-k c = search needs
@@ -43,6 +44,12 @@ mul-found c = search needs
 array-write-found : tie.Need-array-write-found Inv-loop μ-loop
 array-write-found c = search needs
 
+mul-rounds : tie.Need-mul-rounds Inv-loop μ-loop
+mul-rounds c = search needs
+
+array-write-rounds : tie.Need-array-write-rounds Inv-loop μ-loop
+array-write-rounds c = search needs
+
 add-i : tie.Need-add-i Inv-loop μ-loop
 add-i c = search needs
 
@@ -52,10 +59,10 @@ loop-less c = search needs
 loop-again : tie.Need-loop-again Inv-loop μ-loop
 loop-again c =
     let d = c .before .before .before in
-    timing-next _ _ _ _ _ _ (sym (zero-add (d .before .before .loop .i))) (omega (arith, d .before .before .before .before .pre .0 .few)) (d .before .before .loop .inv) (omega arith) (sym (d .vcpu-time .ensures) ∙ ap paperFound (c .before .time .given .1))
+    timing-next _ _ _ _ _ _ _ _ _ (sym (zero-add (d .before .before .loop .i))) (omega (arith, d .before .before .before .before .pre .0 .few)) (d .before .before .loop .inv) (omega arith) (sym (d .vcpu-time .ensures .0) ∙ ap paperFound (c .before .reached .given .1)) (d .vcpu-time .ensures .1)
 
 returns-2 : tie.Need-returns-2 Inv-loop μ-loop
-returns-2 c = timing-end _ _ _ _ (c .before .loop .inv) (omega arith)
+returns-2 c = timing-end _ _ _ _ _ _ (c .before .loop .inv) (omega arith)
 
 pub vcpu-times-spec : {M : Type 1} → statement M
 vcpu-times-spec =
@@ -65,12 +72,14 @@ vcpu-times-spec =
     μ-loop
     loop-holds
     vcpu-time-requires
-    enum-known-time
+    enum-known-reached
     enum-told
     returns
     cast-k
     mul-found
     array-write-found
+    mul-rounds
+    array-write-rounds
     add-i
     loop-less
     loop-again

@@ -1,5 +1,5 @@
--- `admission::search::time_in_part` meets its contract. The invariant: no microsecond before t will do. Each round goes on to the first
--- whose supply covers the need in t, and what the search stops at is the first that will (`Search`).
+-- `admission::search::time_in_part` meets its contract. The invariant: no microsecond before t will do, and so many rounds are behind it. Each
+-- round goes on to the first whose supply covers the need in t, and what the search stops at is the first that will (`Searching`).
 use Prim.Native.Nat.{_+_, _-_, _≤_}
 use native.Mathlib.Nat.{le-trans}
 use native.Mathlib.Omega.{arith}
@@ -8,18 +8,20 @@ use Rattle.supply.specs.Supply.{supply, firstSupply}
 use Rattle.rows.specs.RowWords.{deadline, cost}
 use Rattle.rows.specs.Reload.{charges}
 use Rattle.times.specs.Times.{taskNeed, timeInPart}
-use Rattle.times.proofs.Search.{Searchable, Before, before-one, next, found, missed, exceeded}
+use Rattle.times.specs.Rounds.{roundsInPart}
+use Rattle.times.proofs.Search.{Searchable}
+use Rattle.times.proofs.Counted.{Searching, search-start, search-found, search-exceeded, search-missed, search-next}
 use Rattle.times.proofs.Bounds.{task-search, kept-le, kept-need}
 use borrow.Author.Needs.{needs}
 use Rattle.admission.proofs.search.time_in_part.Statement.{statement}
 use Rattle.admission.proofs.search.time_in_part.Tie as tie
 
 abbrev Inv-loop : tie.InvT-loop
-Inv-loop period budget reload part i due own charged t₀ t =
-    (1 ≤ t) × (due ≡ deadline part i) × Before (supply period budget) (taskNeed reload part i) t × (charged ≡ charges reload part i) × (own ≡ cost part i)
+Inv-loop period budget reload part i due own charged t₀ rounds₀ t rounds =
+    Searching (supply period budget) (taskNeed reload part i) (deadline part i) rounds t × (due ≡ deadline part i) × (charged ≡ charges reload part i) × (own ≡ cost part i)
 
 abbrev μ-loop : tie.MeasureT-loop
-μ-loop period budget reload part i due own charged t₀ t = due + 1 - t
+μ-loop period budget reload part i due own charged t₀ rounds₀ t rounds = due + 1 - t
 
 -- the places: the entry and the turn of the loop, and the turn after its calls
 abbrev entry : tie.In-loop Inv-loop μ-loop → tie.Start Inv-loop μ-loop
@@ -54,7 +56,7 @@ cast-due : tie.Need-cast-due Inv-loop μ-loop
 cast-due c = omega (arith, c .task-word .ok)
 
 loop-holds : tie.Need-loop-holds Inv-loop μ-loop
-loop-holds c = (omega arith, c .before .before .task-word .ensures, before-one (search-of (c .before .before .before .before)), c .charges .ensures, c .before .cost .ensures)
+loop-holds c = (search-start (search-of (c .before .before .before .before)), c .before .before .task-word .ensures, c .charges .ensures, c .before .cost .ensures)
 
 cast-task-need : tie.Need-cast-task-need Inv-loop μ-loop
 cast-task-need c = omega (arith, due-le (c .before), c .before .before .loop .inv .1)
@@ -65,11 +67,11 @@ task-need-requires c κs =
     let a = s .args in
     let h = c .before .before .loop in
     let r = s .pre .3 .row (a .i) (s .pre .4) in (
-      omega (arith, r .cost-high, h .inv .4),
+      omega (arith, r .cost-high, h .inv .3),
       omega (arith, due-le (c .before), h .inv .1),
       s .pre .3,
       omega (arith, s .pre .4),
-      kept-le (a .reload) (a .part .now) (a .i) _ _ (h .inv .4) (h .inv .3) (s .pre .2) (s .pre .3) (s .pre .4),
+      kept-le (a .reload) (a .part .now) (a .i) _ _ (h .inv .3) (h .inv .2) (s .pre .2) (s .pre .3) (s .pre .4),
     )
 
 -- the need with what is kept is the task's
@@ -79,14 +81,25 @@ need-is c =
     let s = entry (asked c) in
     let a = s .args in
     let h = asked c .before .loop in
-    c .task-need .ensures ∙ kept-need (a .reload) (a .part .now) (a .i) _ _ (h .inv .4) (h .inv .3) (h .t) (omega (arith, s .pre .3 .few, s .pre .4))
+    c .task-need .ensures ∙ kept-need (a .reload) (a .part .now) (a .i) _ _ (h .inv .3) (h .inv .2) (h .t) (omega (arith, s .pre .3 .few, s .pre .4))
+
+-- so far, in the turn: t is within the deadline
+in-time : (c : tie.In-loop Inv-loop μ-loop) → c .before .loop .t ≤ deadline (entry c .args .part .now) (entry c .args .i)
+in-time c = omega (arith, c .before .loop .inv .1)
+
+rounds-fit : (c : tie.In-loop Inv-loop μ-loop) → c .before .loop .rounds + 1 ≤ 1000000
+rounds-fit c = omega (arith, in-time c, due-le c, c .before .loop .inv .0 .fewer)
+
+add-t19 : tie.Need-add-t19 Inv-loop μ-loop
+add-t19 c = omega (arith, rounds-fit (asked (c .before)))
 
 returns : tie.Need-returns Inv-loop μ-loop
-unfolding timeInPart
+unfolding timeInPart roundsInPart
 returns c =
     let d = asked (c .before) in
     let h = d .before .loop in
-    sym (exceeded (search-of (entry d)) _ (h .t) (h .inv .0) (h .inv .2) (omega (arith, h .inv .1, need-is (c .before))))
+    let told = search-exceeded (search-of (entry d)) (h .inv .0) (in-time d) (omega (arith, h .inv .1, need-is (c .before))) in
+    (sym (told .0), sym (told .1))
 
 cast-first-supply : tie.Need-cast-first-supply Inv-loop μ-loop
 cast-first-supply c = omega (arith, due-le (within c), within c .before .loop .inv .1)
@@ -96,17 +109,26 @@ first-supply-requires c κs =
     let s = entry (within c) in
     (s .pre .0, s .pre .1, rw (need-is (c .before)) (search-of s .some (within c .before .loop .t)), omega (arith, due-le (within c), within c .before .loop .inv .1))
 
-cast-t17 : tie.Need-cast-t17 Inv-loop μ-loop
-cast-t17 c = let d = turn (c .before) in omega (arith, due-le d, d .before .loop .inv .1)
+cast-t20 : tie.Need-cast-t20 Inv-loop μ-loop
+cast-t20 c = let d = turn (c .before) in omega (arith, due-le d, d .before .loop .inv .1)
+
+add-t22 : tie.Need-add-t22 Inv-loop μ-loop
+add-t22 c = omega (arith, rounds-fit (turn (c .before)))
+
+-- the microsecond that is taken is the first whose supply covers the need in t
+taken : (c : tie.After-first-supply Inv-loop μ-loop) → let a = entry (turn c) .args in
+    c .first-supply .result ≡ firstSupply (a .period) (a .budget) (taskNeed (a .reload) (a .part .now) (a .i) (turn c .before .loop .t))
+taken c = rw (need-is (c .before .before)) at (c .first-supply .ensures)
 
 returns-2 : tie.Need-returns-2 Inv-loop μ-loop
-unfolding timeInPart
+unfolding timeInPart roundsInPart
 returns-2 c =
     let d = turn (c .before) in
-    let s = entry d in
-    let h = d .before .loop in
-    let stays = rw (c .before .first-supply .ensures, need-is (c .before .before .before)) at (c .if2 .taken) in
-    sym (found (search-of s) (deadline (s .args .part .now) (s .args .i)) (h .t) (h .inv .0) (omega (arith, h .inv .1)) (h .inv .2) stays)
+    let told = search-found (search-of (entry d)) (d .before .loop .inv .0) (in-time d) (rw (taken (c .before)) at (c .if2 .taken)) in
+    (sym (told .0), sym (told .1))
+
+add-rounds : tie.Need-add-rounds Inv-loop μ-loop
+add-rounds c = omega (arith, rounds-fit (turn (c .before)))
 
 loop-less : tie.Need-loop-less Inv-loop μ-loop
 loop-less c = omega arith
@@ -115,13 +137,15 @@ loop-again : tie.Need-loop-again Inv-loop μ-loop
 loop-again c =
     let d = turn (c .before) in
     let h = d .before .loop in
-    (omega arith, h .inv .1, rw (c .before .first-supply .ensures, need-is (c .before .before .before)) (next (search-of (entry d)) (h .t) (h .inv .2)), h .inv .3, h .inv .4)
+    let later = rw (taken (c .before)) at (c .if2 .left) in
+    (rw (taken (c .before)) (search-next (search-of (entry d)) (h .inv .0) (in-time d) later), h .inv .1, h .inv .2, h .inv .3)
 
 returns-3 : tie.Need-returns-3 Inv-loop μ-loop
-unfolding timeInPart
+unfolding timeInPart roundsInPart
 returns-3 c =
     let h = c .before .loop in
-    sym (missed (search-of (c .before .before .before .before .before .before)) _ (h .t) (omega (arith, h .inv .1)) (h .inv .2))
+    let told = search-missed (search-of (c .before .before .before .before .before .before)) (h .inv .0) (omega (arith, h .inv .1)) in
+    (sym (told .0), sym (told .1))
 
 pub time-in-part-spec : {M : Type 1} → statement M
 time-in-part-spec =
@@ -136,11 +160,14 @@ time-in-part-spec =
     loop-holds
     cast-task-need
     task-need-requires
+    add-t19
     returns
     cast-first-supply
     first-supply-requires
-    cast-t17
+    cast-t20
+    add-t22
     returns-2
+    add-rounds
     loop-less
     loop-again
     returns-3)

@@ -4,7 +4,9 @@ use native.Mathlib.Omega.{arith}
 use mathlib.Core.Path.{_≡_, sym, _∙_}
 use Rattle.rows.specs.RowWords.{vcpuPeriod, budget}
 use Rattle.times.specs.Times.{vcpuNeed, vcpuTime}
-use Rattle.times.proofs.Search.{Searchable, Before, before-one, next, found, missed}
+use Rattle.times.specs.Rounds.{vcpuRounds}
+use Rattle.times.proofs.Search.{Searchable}
+use Rattle.times.proofs.Counted.{Searching, search-start, search-found, search-missed, search-next}
 use Rattle.times.proofs.Bounds.{vcpu-search}
 use borrow.Author.Needs.{needs}
 use Rattle.admission.specs.Earlier.{OnCore}
@@ -13,11 +15,11 @@ use Rattle.admission.proofs.search.vcpu_time.Statement.{statement}
 use Rattle.admission.proofs.search.vcpu_time.Tie as tie
 
 abbrev Inv-loop : tie.InvT-loop
-Inv-loop vcpus i due own count periods budgets t₀ t =
-    (1 ≤ t) × (due ≡ vcpuPeriod vcpus i) × Before (λ (s : ℕ). s) (vcpuNeed vcpus i) t × (own ≡ budget vcpus i) × OnCore vcpus i i count periods budgets
+Inv-loop vcpus i due own count periods budgets t₀ rounds₀ t rounds =
+    Searching (λ (s : ℕ). s) (vcpuNeed vcpus i) (vcpuPeriod vcpus i) rounds t × (due ≡ vcpuPeriod vcpus i) × (own ≡ budget vcpus i) × OnCore vcpus i i count periods budgets
 
 abbrev μ-loop : tie.MeasureT-loop
-μ-loop vcpus i due own count periods budgets t₀ t = due + 1 - t
+μ-loop vcpus i due own count periods budgets t₀ rounds₀ t rounds = due + 1 - t
 
 -- the places: the entry and the turn of the loop
 abbrev entry : tie.In-loop Inv-loop μ-loop → tie.Start Inv-loop μ-loop
@@ -48,7 +50,7 @@ cast-due c = omega (arith, c .vcpu-word .ok)
 loop-holds : tie.Need-loop-holds Inv-loop μ-loop
 loop-holds c =
     let k = c .before .before in
-    (omega arith, k .before .before .vcpu-word .ensures, before-one (search-of (k .before .before .before .before)), k .before .vcpu-word2 .ensures, k .core-rows .ensures)
+    (search-start (search-of (k .before .before .before .before)), k .before .before .vcpu-word .ensures, k .before .vcpu-word2 .ensures, k .core-rows .ensures)
 
 cast-vcpu-need : tie.Need-cast-vcpu-need Inv-loop μ-loop
 cast-vcpu-need c = let d = c .before .before in omega (arith, due-le d, d .before .loop .inv .1)
@@ -59,10 +61,10 @@ vcpu-need-requires c κs =
     let s = entry d in
     let h = d .before .loop in
     let r = s .pre .0 .row (s .args .i) (s .pre .1) in (
-      omega (arith, h .inv .3, r .budget-high, r .period-high),
+      omega (arith, h .inv .2, r .budget-high, r .period-high),
       omega (arith, due-le d, h .inv .1),
-      omega (arith, s .pre .0 .few, s .pre .1, h .inv .4 .few),
-      h .inv .4 .within,
+      omega (arith, s .pre .0 .few, s .pre .1, h .inv .3 .few),
+      h .inv .3 .within,
     )
 
 -- the need with what is kept is the VCPU's
@@ -70,19 +72,29 @@ need-is : (c : tie.After-vcpu-need Inv-loop μ-loop) → let a = entry (turn c) 
     c .vcpu-need .result ≡ vcpuNeed (a .vcpus .now) (a .i) (turn c .before .loop .t)
 need-is c =
     let h = turn c .before .loop in
-    c .vcpu-need .ensures ∙ kept-need (h .inv .3) (h .inv .4) (h .t)
+    c .vcpu-need .ensures ∙ kept-need (h .inv .2) (h .inv .3) (h .t)
 
-cast-t16 : tie.Need-cast-t16 Inv-loop μ-loop
-cast-t16 c = let d = turn (c .before) in omega (arith, due-le d, d .before .loop .inv .1)
+in-time : (c : tie.In-loop Inv-loop μ-loop) → c .before .loop .t ≤ vcpuPeriod (entry c .args .vcpus .now) (entry c .args .i)
+in-time c = omega (arith, c .before .loop .inv .1)
+
+rounds-fit : (c : tie.In-loop Inv-loop μ-loop) → c .before .loop .rounds + 1 ≤ 1000000
+rounds-fit c = omega (arith, in-time c, due-le c, c .before .loop .inv .0 .fewer)
+
+cast-t17 : tie.Need-cast-t17 Inv-loop μ-loop
+cast-t17 c = let d = turn (c .before) in omega (arith, due-le d, d .before .loop .inv .1)
+
+add-t19 : tie.Need-add-t19 Inv-loop μ-loop
+add-t19 c = omega (arith, rounds-fit (turn (c .before)))
 
 returns : tie.Need-returns Inv-loop μ-loop
-unfolding vcpuTime
+unfolding vcpuTime vcpuRounds
 returns c =
     let d = turn (c .before) in
-    let s = entry d in
-    let h = d .before .loop in
-    let stays = rw (need-is (c .before)) at (c .if1 .taken) in
-    sym (found (search-of s) (vcpuPeriod (s .args .vcpus .now) (s .args .i)) (h .t) (h .inv .0) (omega (arith, h .inv .1)) (h .inv .2) stays)
+    let told = search-found (search-of (entry d)) (d .before .loop .inv .0) (in-time d) (rw (need-is (c .before)) at (c .if1 .taken)) in
+    (sym (told .0), sym (told .1))
+
+add-rounds : tie.Need-add-rounds Inv-loop μ-loop
+add-rounds c = omega (arith, rounds-fit (turn (c .before)))
 
 loop-less : tie.Need-loop-less Inv-loop μ-loop
 loop-less c = omega arith
@@ -91,13 +103,15 @@ loop-again : tie.Need-loop-again Inv-loop μ-loop
 loop-again c =
     let d = turn (c .before) in
     let h = d .before .loop in
-    (omega arith, h .inv .1, rw (need-is (c .before)) (next (search-of (entry d)) (h .t) (h .inv .2)), h .inv .3, h .inv .4)
+    let later = rw (need-is (c .before)) at (c .if1 .left) in
+    (rw (need-is (c .before)) (search-next (search-of (entry d)) (h .inv .0) (in-time d) later), h .inv .1, h .inv .2, h .inv .3)
 
 returns-2 : tie.Need-returns-2 Inv-loop μ-loop
-unfolding vcpuTime
+unfolding vcpuTime vcpuRounds
 returns-2 c =
     let h = c .before .loop in
-    sym (missed (search-of (c .before .before .before .before .before .before .before .before)) _ (h .t) (omega (arith, h .inv .1)) (h .inv .2))
+    let told = search-missed (search-of (c .before .before .before .before .before .before .before .before)) (h .inv .0) (omega (arith, h .inv .1)) in
+    (sym (told .0), sym (told .1))
 
 pub vcpu-time-spec : {M : Type 1} → statement M
 vcpu-time-spec =
@@ -112,8 +126,10 @@ vcpu-time-spec =
     loop-holds
     cast-vcpu-need
     vcpu-need-requires
-    cast-t16
+    cast-t17
+    add-t19
     returns
+    add-rounds
     loop-less
     loop-again
     returns-2)

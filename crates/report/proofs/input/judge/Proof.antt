@@ -4,21 +4,28 @@ use native.Mathlib.Omega.{arith}
 use mathlib.Core.Path.{_≡_, sym, _∙_}
 use lib.ListN.{length}
 use lib.Seq.{length-take-le}
+use Rattle.admission.specs.Admission.{room}
 use Rattle.report.specs.Input.{reloadOf, vcpusOf, tasksOf}
-use Rattle.report.proofs.Words.{reload-read, vcpus-read, tasks-read, same-reply, same-times}
+use Rattle.report.proofs.Words.{reload-read, vcpus-read, tasks-read, same-reply, same-times, same-rounds}
 use borrow.Author.Needs.{needs}
 use Rattle.report.proofs.input.judge.Statement.{statement}
 use Rattle.report.proofs.input.judge.Tie as tie
 
 -- earlier places of the code
 abbrev entry : tie.After-first → tie.Start
-entry c = c .before .before .before .before .before .before .before
+entry c = c .before .before .before .before .before .before .before .before
 
 abbrev first : tie.After-second → tie.After-first
 first c = c .before .before .before .before .before .before .before
 
-abbrev second : tie.After-slice-known4 → tie.After-second
-second c = c .before .before .before .before .before .before .before .before .before .before .before .before
+abbrev vcpus-in : tie.After-slice-known6 → tie.After-read-words
+vcpus-in c = c .before .before .before .before .before .before .before .before .before .before .before .before .before .before .before .before .before .before .before .before
+
+abbrev tasks-in : tie.After-slice-known6 → tie.After-read-words2
+tasks-in c = c .before .before .before .before .before .before .before .before .before .before .before .before .before
+
+abbrev second : tie.After-slice-known6 → tie.After-second
+second c = tasks-in c .before .before
 
 vcpus-fit : (c : tie.After-first) → 4 * entry c .args .rows .vcpus ≤ length (c .before .vcpu-space .result)
 vcpus-fit c = omega (arith, entry c .pre .1 .0 .1, c .before .vcpu-space .ensures)
@@ -31,16 +38,16 @@ reload-is c =
     let s = entry c in
     reload-read (s .args .input .now) (s .args .rows .domains) (s .pre .0 .0) _ (c .before .before .before .word .ensures)
 
-vcpus-are : (c : tie.After-slice-known4) → c .before .before .before .before .before .before .before .before .before .before .before .before .before .before .before .before .before .read-words .last .1 .1 .0 ≡ vcpusOf (entry (first (second c)) .args .input .now)
+vcpus-are : (c : tie.After-slice-known6) → vcpus-in c .read-words .last .1 .1 .0 ≡ vcpusOf (entry (first (second c)) .args .input .now)
 vcpus-are c =
     let f = first (second c) in
     let s = entry f in
-    vcpus-read (s .args .input .now) (s .args .rows .domains) (s .pre .0 .0) (s .args .rows .vcpus) (s .pre .1 .0 .0) _ (f .before .vcpu-space .result) (vcpus-fit f) (c .before .before .before .before .before .before .before .before .before .before .before .before .before .before .before .before .before .read-words .ensures)
+    vcpus-read (s .args .input .now) (s .args .rows .domains) (s .pre .0 .0) (s .args .rows .vcpus) (s .pre .1 .0 .0) _ (f .before .vcpu-space .result) (vcpus-fit f) (vcpus-in c .read-words .ensures)
 
-tasks-are : (c : tie.After-slice-known4) → c .before .before .before .before .before .before .before .before .before .before .read-words2 .last .1 .1 .0 ≡ tasksOf (entry (first (second c)) .args .input .now)
+tasks-are : (c : tie.After-slice-known6) → tasks-in c .read-words2 .last .1 .1 .0 ≡ tasksOf (entry (first (second c)) .args .input .now)
 tasks-are c =
     let s = entry (first (second c)) in
-    tasks-read (s .args .input .now) (s .args .rows .domains) (s .pre .0 .0) (s .args .rows .vcpus) (s .pre .1 .0 .0) _ (second c .before .task-space .result) (s .args .rows .tasks) (s .pre .1 .1 .0) (tasks-fit (second c)) (c .before .before .before .before .before .before .before .before .before .before .read-words2 .ensures)
+    tasks-read (s .args .input .now) (s .args .rows .domains) (s .pre .0 .0) (s .args .rows .vcpus) (s .pre .1 .0 .0) _ (second c .before .task-space .result) (s .args .rows .tasks) (s .pre .1 .1 .0) (tasks-fit (second c)) (tasks-in c .read-words2 .ensures)
 
 read-board-requires : tie.Need-read-board-requires
 read-board-requires c κs = search needs
@@ -100,14 +107,20 @@ admit-plan-requires c κs = search needs
 same-length : tie.Need-same-length
 same-length c = search needs
 
+same-length-2 : tie.Need-same-length-2
+same-length-2 c = search needs
+
 returns : tie.Need-returns
 returns c =
     let f = first (second c) in
     let s = entry f in
-    let a = c .before .before .before .before .admit-plan in
+    let done = c .before .before .before .before .before .before .admit-plan .ensures in
     let board = f .before .before .before .before .read-board .ensures in (
-      a .ensures .0 ∙ same-reply (s .args .input .now) _ _ _ _ board (reload-is f) (vcpus-are c) (tasks-are c) (length (s .args .times .now)),
-      a .ensures .1 ∙ same-times (s .args .input .now) _ _ _ _ board (reload-is f) (vcpus-are c) (tasks-are c) (s .args .times .now),
+      done .0 ∙ same-reply (s .args .input .now) _ _ _ _ board (reload-is f) (vcpus-are c) (tasks-are c) (room (s .args .times .now) (s .args .rounds .now)),
+      (
+        done .1 .0 ∙ same-times (s .args .input .now) _ _ _ _ board (reload-is f) (vcpus-are c) (tasks-are c) (s .args .times .now) (s .args .rounds .now),
+        done .1 .1 ∙ same-rounds (s .args .input .now) _ _ _ _ board (reload-is f) (vcpus-are c) (tasks-are c) (s .args .times .now) (s .args .rounds .now),
+      ),
     )
 
 pub judge-spec : {M : Type 1} → statement M
@@ -132,4 +145,5 @@ judge-spec =
     read-words-requires-2
     admit-plan-requires
     same-length
+    same-length-2
     returns)

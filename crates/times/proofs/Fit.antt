@@ -8,7 +8,8 @@ use Rattle.rows.specs.RowWords.{vcpuPeriod, budget, vcpuOf, taskRows}
 use Rattle.rows.specs.Part.{partStart, partOf}
 use Rattle.rows.specs.Valid.{Tasks, Plan}
 use Rattle.rows.proofs.Parts.{part-rows, part-tasks, row-in-part}
 use Rattle.times.specs.Times.{timeInPart, taskTime}
+use Rattle.times.specs.Rounds.{roundsInPart, taskRounds}
 
 pub record Fit (vcpus tasks : List ℕ) (j : ℕ) : Type 0 where
   pub start : partStart tasks (vcpuOf tasks j) ≤ j
@@ -40,3 +41,7 @@ module _ (vcpus tasks own : List ℕ) (j v p q start : ℕ)
   pub time-read : (reload : ℕ) → timeInPart p q reload own (j - start) ≡ taskTime reload vcpus tasks j
   unfolding taskTime
   time-read reload = rw (hp, hq, hv, ho, hs) refl
+
+  pub rounds-read : (reload : ℕ) → roundsInPart p q reload own (j - start) ≡ taskRounds reload vcpus tasks j
+  unfolding taskRounds
+  rounds-read reload = rw (hp, hq, hv, ho, hs) refl

@@ -1,0 +1,72 @@
+-- `admission::row_times::write_front` meets its contract: the invariant has the words words over the front of the list.
+use Prim.Native.Nat.{ℕ, _-_, _<_, _≤_}
+use native.Mathlib.Omega.{arith}
+use mathlib.Core.List.{_++_}
+use mathlib.Core.Path.{_≡_, refl, ap, _∙_}
+use lib.ListN.{length, take, drop, length-set}
+use borrow.Author.Needs.{needs}
+use Rattle.lists.proofs.Written.{write-next}
+use Rattle.admission.proofs.row_times.write_front.Statement.{statement}
+use Rattle.admission.proofs.row_times.write_front.Tie as tie
+
+abbrev Inv-loop : tie.InvT-loop
+Inv-loop list₀ count words k₀ list k = (k ≤ count) × (length list ≡ length list₀) × (list ≡ take k words ++ drop k list₀)
+
+abbrev μ-loop : tie.MeasureT-loop
+μ-loop list₀ count words k₀ list k = count - k
+
+loop-holds : tie.Need-loop-holds Inv-loop μ-loop
+loop-holds c = (omega arith, refl, refl)
+
+mul-list : tie.Need-mul-list Inv-loop μ-loop
+mul-list c = search needs
+
+array-read-list : tie.Need-array-read-list Inv-loop μ-loop
+array-read-list c = search needs
+
+mul-list-2 : tie.Need-mul-list-2 Inv-loop μ-loop
+mul-list-2 c = search needs
+
+slice-write-list : tie.Need-slice-write-list Inv-loop μ-loop
+slice-write-list c = search needs
+
+add-k : tie.Need-add-k Inv-loop μ-loop
+add-k c = search needs
+
+loop-less : tie.Need-loop-less Inv-loop μ-loop
+loop-less c = search needs
+
+loop-again : tie.Need-loop-again Inv-loop μ-loop
+loop-again c =
+    let s = c .before .before in
+    let h = c .before .loop in
+    let in-words : h .k < length (s .args .t2) = omega (arith, s .pre .0, s .pre .2) in
+    let in-list : h .k < length (s .args .list .now) = omega (arith, s .pre .1) in
+    (omega arith, simp length-set (h .inv .1), rw (h .inv .2) (write-next (s .args .t2) (s .args .list .now) (h .k) in-words in-list))
+
+same-length : tie.Need-same-length Inv-loop μ-loop
+same-length c = search needs
+
+returns : tie.Need-returns Inv-loop μ-loop
+returns c =
+    let s = c .before .before in
+    let h = c .before .loop in
+    let all : h .k ≡ s .args .count = omega arith in
+    h .inv .2 ∙ ap (λ (n : ℕ). take n (s .args .t2) ++ drop n (s .args .list .now)) all
+
+pub write-front-spec : {M : Type 1} → statement M
+write-front-spec =
+    tie.close
+    (tie.spec
+    Inv-loop
+    μ-loop
+    loop-holds
+    mul-list
+    array-read-list
+    mul-list-2
+    slice-write-list
+    add-k
+    loop-less
+    loop-again
+    same-length
+    returns)
