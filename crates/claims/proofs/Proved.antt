@@ -11,6 +11,7 @@ use Rattle.supply.proofs.Laws as law
 use Rattle.times.proofs.Planner as planner
 use Rattle.times.proofs.Added.{added-rows-change-nothing}
 use Rattle.times.proofs.SafeSide as safe
+use Rattle.times.proofs.PlanRounds as round
 use Rattle.examples.proofs.Claim.{claim}
 use Rattle.report.proofs.LongInputs.{first-bytes-tell}
 use Rattle.marshal.proofs.Lent as lent
@@ -18,10 +19,12 @@ use Rattle.claims.specs.Colours.{ColourClaims}
 use Rattle.claims.specs.Histories.{HistoryClaims}
 use Rattle.claims.specs.Times.{SupplyClaims, TimeClaims}
 use Rattle.claims.specs.Reload.{ReloadClaims}
+use Rattle.claims.specs.Rounds.{RoundClaims}
 use Rattle.claims.specs.Interface.{InterfaceClaims}
 use Rattle.claims.specs.Claims.{Claims}
 use Rattle.claims.proofs.Looks.{look-claims}
 use Rattle.claims.proofs.Reload.{reloaded-counts}
+use Rattle.claims.proofs.Rounds as reached
 
 colour-claims : ColourClaims
 colour-claims =
@@ -89,6 +92,25 @@ reload-claims =
       no-earlier-than-pairwise = safe.no-earlier-than-pairwise;
     }
 
+round-claims : RoundClaims
+round-claims =
+    record {
+      task-rounds-bounded = round.task-rounds-bounded;
+      vcpu-rounds-bounded = round.vcpu-rounds-bounded;
+      bound-is-reached = (reached.crowded-rounds, reached.crowded-bound);
+      bound-grows = round.bound-grows;
+      long-period-adds-nothing = round.long-period-adds-nothing;
+      most-task-bound = round.most-task-bound;
+      most-vcpu-bound = round.most-vcpu-bound;
+      task-bound-at-most = reached.task-bound-at-most;
+      task-rounds-in-time = round.task-rounds-in-time;
+      vcpu-rounds-in-time = round.vcpu-rounds-in-time;
+      a-million-task-rounds = reached.a-million-task-rounds;
+      a-million-vcpu-rounds = reached.a-million-vcpu-rounds;
+      task-search-ends = round.task-search-ends;
+      vcpu-search-ends = round.vcpu-search-ends;
+    }
+
 interface-claims : InterfaceClaims
 interface-claims =
     record {
@@ -109,6 +131,7 @@ claims =
       supply = supply-claims;
       times = time-claims;
       reload = reload-claims;
+      rounds = round-claims;
       examples-hold = claim;
       interface = interface-claims;
     }

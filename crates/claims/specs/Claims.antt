@@ -9,6 +9,7 @@ use Rattle.claims.specs.Histories.{HistoryClaims}
 use Rattle.claims.specs.Looks.{LookClaims}
 use Rattle.claims.specs.Times.{SupplyClaims, TimeClaims}
 use Rattle.claims.specs.Reload.{ReloadClaims}
+use Rattle.claims.specs.Rounds.{RoundClaims}
 use Rattle.claims.specs.Interface.{InterfaceClaims}
 
 pub record Claims : Type 0 where
@@ -25,6 +26,8 @@ pub record Claims : Type 0 where
   pub times : TimeClaims
   -- The colours that an arrival reloads: document 02, No. 3.
   pub reload : ReloadClaims
+  -- How many rounds the search for a time can take: document 02, No. 9.
+  pub rounds : RoundClaims
   -- Document 01's examples that are marked m, those of document 02, and the worked examples of document 004: `examples/specs/Table.antt` lists them.
   pub examples-hold : allHold examples ≡ true
   -- What the C interface and the program add.

@@ -1,8 +1,9 @@
--- The page of claims: everything that is claimed beyond the contracts of the functions, in six groups, and all of them as one type.
+-- The page of claims: everything that is claimed beyond the contracts of the functions, in seven groups, and all of them as one type.
 pub mod Colours
 pub mod Histories
 pub mod Looks
 pub mod Times
 pub mod Reload
+pub mod Rounds
 pub mod Interface
 pub mod Claims

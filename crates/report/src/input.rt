@@ -111,12 +111,7 @@ fn read_board(input: &[u8], domains: usize) -> Board
 
 // Admission of the plan that the input holds, where its counts are within their limits. The program prints
 // no rounds.
-pub(crate) fn judge(
-    input: &[u8],
-    rows: Rows,
-    times: &mut [u32],
-    rounds: &mut [u32],
-) -> Admission
+pub(crate) fn judge(input: &[u8], rows: Rows, times: &mut [u32], rounds: &mut [u32]) -> Admission
     requires { ⌜ (rows .domains ≡ domainCount (now input)) × (rows .domains ≤ 8) ⌝ }
     requires { ⌜ (rows .vcpus ≡ vcpuCount (now input)) × (rows .vcpus ≤ 16) ⌝ }
     requires { ⌜ (rows .tasks ≡ taskCount (now input)) × (rows .tasks ≤ 32) ⌝ }

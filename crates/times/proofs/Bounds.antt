@@ -57,24 +57,32 @@ module _ (reload : ℕ) (part : List ℕ) (i own : ℕ) (charged : List ℕ) (ow
       (need-same (cost part i) (taskPeriod part) (taskPeriod part) (charge reload part i) (λ (j : ℕ). getD (charges reload part i) j 0) i t
       (λ j l. (refl, charge-kept reload part i few j l)))
 
-pub task-search : (p q reload : ℕ) (part : List ℕ) (i : ℕ) → Budget p q → Tasks part → i < taskRows part → Searchable (supply p q) (taskNeed reload part i) (firstSupply p q)
+-- the search serves a task with some cost, under a budget
+pub task-searchable : (p q reload : ℕ) (part : List ℕ) (i : ℕ) → Budget p q → 1 ≤ cost part i → Searchable (supply p q) (taskNeed reload part i) (firstSupply p q)
 unfolding taskNeed
-task-search p q reload part i b rows here =
+task-searchable p q reload part i b some =
     record {
       first-le = first-le b;
       le-sup = le-supply b;
       le-first = le-first b;
       mono = need-mono (cost part i) (taskPeriod part) (charge reload part i) i;
-      some = λ t. le-trans (rows .row i here .cost-low) (own-le (cost part i) (taskPeriod part) (charge reload part i) i t);
+      some = λ t. le-trans some (own-le (cost part i) (taskPeriod part) (charge reload part i) i t);
     }
 
-pub vcpu-search : (vcpus : List ℕ) (i : ℕ) → Vcpus vcpus → i < vcpuRows vcpus → Searchable (λ (t : ℕ). t) (vcpuNeed vcpus i) (λ (x : ℕ). x)
+pub task-search : (p q reload : ℕ) (part : List ℕ) (i : ℕ) → Budget p q → Tasks part → i < taskRows part → Searchable (supply p q) (taskNeed reload part i) (firstSupply p q)
+task-search p q reload part i b rows here = task-searchable p q reload part i b (rows .row i here .cost-low)
+
+-- and a VCPU with some budget
+pub vcpu-searchable : (vcpus : List ℕ) (i : ℕ) → 1 ≤ budget vcpus i → Searchable (λ (t : ℕ). t) (vcpuNeed vcpus i) (λ (x : ℕ). x)
 unfolding vcpuNeed
-vcpu-search vcpus i rows here =
+vcpu-searchable vcpus i some =
     record {
       first-le = λ x t pos h. h;
       le-sup = λ x t pos h. h;
       le-first = λ x pos. le-refl x;
       mono = need-mono (budget vcpus i) (vcpuPeriod vcpus) (vcpuCharge vcpus i) i;
-      some = λ t. le-trans (rows .row i here .budget-low) (own-le (budget vcpus i) (vcpuPeriod vcpus) (vcpuCharge vcpus i) i t);
+      some = λ t. le-trans some (own-le (budget vcpus i) (vcpuPeriod vcpus) (vcpuCharge vcpus i) i t);
     }
+
+pub vcpu-search : (vcpus : List ℕ) (i : ℕ) → Vcpus vcpus → i < vcpuRows vcpus → Searchable (λ (t : ℕ). t) (vcpuNeed vcpus i) (λ (x : ℕ). x)
+vcpu-search vcpus i rows here = vcpu-searchable vcpus i (rows .row i here .budget-low)

@@ -1,7 +1,7 @@
 -- The rounds of a search, over any need and supply with a first time for each amount: what one round does, that the search ends by itself, and
 -- what a loop by rounds knows when it comes to t, of the time and of the rounds.
 use Prim.Native.Nat.{ℕ, zero, suc, _+_, _-_, _<_, _≤_}
-use native.Mathlib.Nat.{le-refl, lt-irrefl, le-trans, zero-add}
+use native.Mathlib.Nat.{le-refl, lt-irrefl, le-trans, zero-add, le-of-suc-le-suc, not-suc-le-zero}
 use native.Mathlib.Omega.{arith}
 use mathlib.Core.Bool.{false, true≢false, _||_}
 use mathlib.Core.Path.{_≡_, refl, sym, ap, _∙_}
@@ -106,6 +106,19 @@ module _ {sup want first : ℕ → ℕ} (r : Searchable sup want first) (due : �
   pub as-many-as-microseconds : ((s : ℕ) → s ≤ due → first (want s) ≡ s + 1) → rounds sup want due ≡ due
   unfolding rounds
   as-many-as-microseconds next = one-by-one due 1 (omega arith) next
+
+  -- where the rounds start at known places, the last of which is its own first time, they are as many as the places
+  module _ (place : ℕ → ℕ) (top : ℕ)
+      (step : (k : ℕ) → k < top → (first (want (place k)) ≡ place (suc k)) × (place k < place (suc k)))
+      (within : (k : ℕ) → k ≤ top → place k ≤ due) (stays : first (want (place top)) ≡ place top) where
+    pub climb : (m n k : ℕ) → k + m ≡ top → m < n → roundsFrom sup want due n (place k) ≡ suc m
+    climb m zero k e l = absurd (not-suc-le-zero l)
+    climb zero (suc n) k e l = let at : k ≡ top = omega arith in rw at (ends n (place top) (within top (le-refl top)) stays)
+    climb (suc m) (suc n) k e l =
+        let s = step k (omega arith) in
+        let later = within (suc k) (omega arith) in
+        goes-on n (place k) (omega (arith, s .0, s .1)) (omega (arith, s .0, later))
+        ∙ rw (s .0) (ap suc (climb m n (suc k) (omega arith) (le-of-suc-le-suc l)))
 
 -- the time by definition
 abbrev pub timeOf : (ℕ → ℕ) → (ℕ → ℕ) → ℕ → Time

@@ -1,7 +1,7 @@
 -- The laws of need, over any periods and charges: it never falls, is at least the own cost, has a bound for bounded charges,
 -- and goes by its periods and charges.
 use Prim.Native.Nat.{ℕ, zero, suc, _+_, _-_, _*_, _/_, _<_, _≤_}
-use native.Mathlib.Nat.{le-refl, le-trans, add-le-add, mul-le-mul, mul-le-mul-left, mul-le-mul-right, le-div-iff-mul-le, div-mul-le-self, div-zero, eq-zero-or-pos, div-lt-iff-lt-mul, le-of-suc-le-suc, le-of-eq, le-mul-of-pos-right, suc-mul}
+use native.Mathlib.Nat.{le-refl, le-trans, add-le-add, mul-le-mul, mul-le-mul-left, mul-le-mul-right, le-div-iff-mul-le, div-mul-le-self, div-zero, eq-zero-or-pos, div-lt-iff-lt-mul, le-of-suc-le-suc, le-of-eq, le-mul-of-pos-right, suc-mul, div-add-mod', mod-lt}
 use native.Mathlib.Numerals.{add-one}
 use native.Mathlib.Omega.{arith}
 use mathlib.Core.Logic.{⊎-elim}
@@ -18,6 +18,21 @@ div-mono k {a} {c} h =
 pub arrivals-mono : (period s t : ℕ) → s ≤ t → arrivals s period ≤ arrivals t period
 unfolding arrivals
 arrivals-mono period s t h = div-mono period (omega arith)
+
+-- so many arrivals as cover t, and no more
+arrivals-cover : (period t : ℕ) → 1 ≤ period → t ≤ arrivals t period * period
+unfolding arrivals
+arrivals-cover period t pos = omega (arith, div-add-mod' (t + (period - 1)) period, mod-lt (t + (period - 1)) pos)
+
+pub arrivals-least : (period t k : ℕ) → 1 ≤ period → t ≤ k * period → arrivals t period ≤ k
+unfolding arrivals
+arrivals-least period t k pos h = le-of-suc-le-suc (div-lt-iff-lt-mul {y = suc k} pos .1 (omega (arith, h, suc-mul k period)))
+
+-- fewer of a longer period
+pub arrivals-fall : (t period period′ : ℕ) → 1 ≤ period → period ≤ period′ → arrivals t period′ ≤ arrivals t period
+arrivals-fall t period period′ pos le =
+    arrivals-least period′ t (arrivals t period) (le-trans pos le)
+    (le-trans (arrivals-cover period t pos) (mul-le-mul-left (arrivals t period) le))
 
 -- no more arrivals than microseconds
 pub arrivals-le : (period t : ℕ) → arrivals t period ≤ t

@@ -1,0 +1,91 @@
+-- Plans that reach the bound, and the most rounds that there can be: what a round takes is worked out at each place, and the places are counted.
+use Prim.Native.Nat.{ℕ, suc, _+_, _-_, _*_, _/_, _<_, _≤_}
+use native.Mathlib.Nat.{le-refl, lt-irrefl, add-zero, zero-mul, mul-one, mul-zero, div-one, div-add-mod'}
+use native.Mathlib.Omega.{arith}
+use mathlib.Core.List.{_++_}
+use mathlib.Core.Path.{_≡_, refl, sym, ap, _∙_}
+use lib.Count.{ones, onesIn}
+use Rattle.lists.specs.Range.{from, keep, lowestFrom}
+use Rattle.supply.specs.Supply.{supply, firstSupply, Budget}
+use Rattle.rows.specs.RowWords.{cost}
+use Rattle.rows.specs.Reload.{heldFrom, reloadedSet, reloaded, charge}
+use Rattle.rows.specs.Part.{partStart, rowsFrom, partOf}
+use Rattle.times.specs.Times.{arrivals, need, taskNeed, vcpuCharge, vcpuNeed}
+use Rattle.times.specs.Rounds.{roundsFrom, rounds, roundsInPart, taskRounds, vcpuRounds, roundsBound, taskBound}
+use Rattle.times.proofs.Search.{Searchable}
+use Rattle.times.proofs.Bounds.{task-searchable, vcpu-searchable}
+use Rattle.times.proofs.Counted.{as-many-as-microseconds, climb, goes-on}
+use Rattle.examples.specs.Table.{vcpu, task}
+use Rattle.claims.specs.Rounds.{crowded, full, shortest}
+
+pub task-bound-at-most : taskBound (shortest 31 ++ task 1000000 1000000 0x2 1) 31 ≡ 30999971
+unfolding taskBound roundsBound arrivals
+task-bound-at-most = refl
+
+-- a whole core supplies so much in so many microseconds
+whole : (p x : ℕ) → 1 ≤ x → firstSupply p p x ≡ x
+unfolding firstSupply
+whole p x low = omega (arith, div-add-mod' (x - 1) p)
+
+-- an arrival in each microsecond
+each-one : (t : ℕ) → arrivals t 1 ≡ t
+unfolding arrivals
+each-one t = omega arith
+
+million : Budget 1000000 1000000
+million = record { some = omega arith; within = omega arith }
+
+-- behind a row that takes all of the core, the need in t is t + 1
+one-later : (t : ℕ) → 1 + arrivals t 1 * 1 ≡ t + 1
+one-later t = omega (arith, each-one t)
+
+pub a-million-vcpu-rounds : vcpuRounds (vcpu 1 1 ++ vcpu 1000000 1) 1 ≡ 1000000
+unfolding vcpuRounds vcpuNeed need vcpuCharge
+a-million-vcpu-rounds =
+    as-many-as-microseconds (vcpu-searchable (vcpu 1 1 ++ vcpu 1000000 1) 1 (le-refl 1)) 1000000 (λ t h. one-later t)
+
+pub a-million-task-rounds : taskRounds 0 (vcpu 1000000 1000000) full 1 ≡ 1000000
+unfolding
+    taskRounds roundsInPart partStart partOf rowsFrom lowestFrom keep from
+    taskNeed need cost charge reloaded reloadedSet heldFrom ones onesIn
+a-million-task-rounds =
+    as-many-as-microseconds (task-searchable 1000000 1000000 0 full 1 million (le-refl 1)) 1000000 (λ t h. whole 1000000 (1 + arrivals t 1 * 1) (omega arith) ∙ one-later t)
+
+-- the search of the crowded plan: where its rounds start, from the second on
+abbrev place : ℕ → ℕ
+place k = 1999 + 999 * k
+
+arrived : (k : ℕ) → k < 999 → arrivals (place k) 1000 ≡ k + 2
+unfolding arrivals
+arrived k h = omega arith
+
+-- the first place, and the last, where the need is the time
+from-one : 1000 + arrivals 1 1000 * 999 ≡ place 0
+unfolding arrivals
+from-one = refl
+
+stays : 1000 + arrivals (place 999) 1000 * 999 ≡ place 999
+unfolding arrivals
+stays = refl
+
+crowded-search : Searchable (supply 1000000 1000000) (taskNeed 0 crowded 1) (firstSupply 1000000 1000000)
+unfolding cost ones onesIn
+crowded-search = task-searchable 1000000 1000000 0 crowded 1 million (omega arith)
+
+crowded-first : (t : ℕ) → firstSupply 1000000 1000000 (taskNeed 0 crowded 1 t) ≡ 1000 + arrivals t 1000 * 999
+unfolding taskNeed need cost charge reloaded reloadedSet heldFrom ones onesIn
+crowded-first t = whole 1000000 (1000 + arrivals t 1000 * 999) (omega arith)
+
+pub crowded-rounds : taskRounds 0 (vcpu 1000000 1000000) crowded 1 ≡ 1001
+unfolding taskRounds roundsInPart rounds partStart partOf rowsFrom lowestFrom keep from
+crowded-rounds =
+    let second : firstSupply 1000000 1000000 (taskNeed 0 crowded 1 1) ≡ 1999 = crowded-first 1 ∙ from-one in
+    let rest = climb crowded-search 1000000 place 999
+    (λ k h. (crowded-first (place k) ∙ rw (arrived k h) (omega arith), omega arith))
+    (λ k h. omega arith)
+    (crowded-first (place 999) ∙ stays) 999 999999 0 refl (omega arith) in
+    goes-on crowded-search 1000000 999999 1 (omega (arith, second)) (omega (arith, second)) ∙ rw second (ap suc rest)
+
+pub crowded-bound : taskBound crowded 1 ≡ 1001
+unfolding taskBound roundsBound arrivals
+crowded-bound = refl
