@@ -1,8 +1,9 @@
 /*
  * A loader in small: it sees that the archive is its header's, asks for the colours of its cache, boots a
- * board with two guests, faults pages in, recolours a guest, and admits the plan of document 01. Each reply
- * is held against what document 01 says, and the exit status is 1 where one differs, 2 with an archive of
- * another interface.
+ * board with two guests, faults pages in, recolours a guest, and admits the plan of document 01, knowing
+ * beforehand how many rounds that can take. Each reply is held against what document 01 says, the
+ * rounds against document 02, No. 9, and the exit status is 1 where one differs, 2 with an archive of another
+ * interface.
  */
 #include <stdio.h>
 
@@ -11,6 +12,7 @@
 #define FRAMES 8u
 #define VCPUS 1u
 #define TASKS 2u
+#define ROWS (VCPUS + TASKS)
 #define INPUT_WORDS (7u + VCPUS * JUZVANEC_VCPU_WORDS + TASKS * JUZVANEC_TASK_WORDS)
 
 static int differences = 0;
@@ -178,34 +180,84 @@ static void fill_costs(void)
     }
 }
 
-/* Admits the plan with a list of so many times. */
-static uint32_t admit_plan(uint32_t *times, size_t times_words)
+/* Admits the plan with lists of so many times and rounds. */
+static uint32_t admit_plan(uint32_t *times, size_t times_words, uint32_t *rounds, size_t rounds_words)
 {
     uint32_t row;
 
     return juzvanec_admit_plan(&plan_board, reload, juzvanec_vcpus_as_words(vcpus),
                                VCPUS * JUZVANEC_VCPU_WORDS, juzvanec_tasks_as_words(tasks),
-                               TASKS * JUZVANEC_TASK_WORDS, times, times_words, &row);
+                               TASKS * JUZVANEC_TASK_WORDS, times, times_words, rounds, rounds_words, &row);
+}
+
+/*
+ * The rounds that an earlier row may add to a search: the deadline over its period, rounded up, less 1. In
+ * sound rows neither is 0.
+ */
+static uint32_t added(uint32_t deadline, uint32_t period)
+{
+    return (deadline - 1u) / period;
+}
+
+/*
+ * The most rounds of each row, VCPUs and then tasks. They are known before admission, and hold of a plan
+ * that is late too.
+ */
+static void fill_most(uint32_t *most)
+{
+    uint32_t i, j;
+
+    for (i = 0; i < ROWS; i++)
+        most[i] = 2;
+    for (i = 0; i < VCPUS; i++)
+        for (j = 0; j < i; j++)
+            if (vcpus[j].core == vcpus[i].core)
+                most[i] += added(vcpus[i].period, vcpus[j].period);
+    for (i = 0; i < TASKS; i++)
+        for (j = 0; j < i; j++)
+            if (tasks[j].vcpu == tasks[i].vcpu)
+                most[VCPUS + i] += added(tasks[i].deadline, tasks[j].period);
+}
+
+/* The time of a VCPU or task, and the rounds in which it was found. */
+static void show_time(uint32_t at, uint32_t time, uint32_t rounds, uint32_t most)
+{
+    printf("%s %lu: time %lu, rounds %lu of at most %lu\n", at < VCPUS ? "VCPU" : "task",
+           (unsigned long)(at < VCPUS ? at : at - VCPUS), (unsigned long)time, (unsigned long)rounds,
+           (unsigned long)most);
 }
 
 static void show_plan(void)
 {
-    static const uint32_t expected[3] = {10000, 1000, 5200};
-    uint32_t times[3] = {0, 0, 0};
-    uint32_t number;
+    static const uint32_t expected_times[ROWS] = {10000, 1000, 5200};
+    /* task 1: the need is 4,100 in 1, and with two arrivals of task 0 5,200 in 4,100 and in 5,200 */
+    static const uint32_t expected_rounds[ROWS] = {2, 2, 3};
+    static const uint32_t expected_most[ROWS] = {2, 2, 4};
+    uint32_t times[ROWS] = {0}, rounds[ROWS] = {0}, most[ROWS];
+    uint32_t number, i, all = 0, most_in_all = 0;
     size_t start, length;
-    unsigned i;
 
     juzvanec_part(juzvanec_tasks_as_words(tasks), TASKS * JUZVANEC_TASK_WORDS, 0, &start, &length);
     printf("part of VCPU 0: words %lu to %lu\n", (unsigned long)start, (unsigned long)(start + length));
     expect("part", (uint32_t)(start + length), 40);
-    expect("refusal", admit_plan(times, 3), JUZVANEC_ANSWERED);
-    printf("VCPU times %lu, task times %lu %lu\n", (unsigned long)times[0], (unsigned long)times[1],
-           (unsigned long)times[2]);
-    for (i = 0; i < 3; i++)
-        expect("time", times[i], expected[i]);
-    number = admit_plan(times, 2);
+    fill_most(most);
+    for (i = 0; i < ROWS; i++)
+        most_in_all += most[i];
+    printf("admission takes at most %lu rounds\n", (unsigned long)most_in_all);
+    expect("refusal", admit_plan(times, ROWS, rounds, ROWS), JUZVANEC_ANSWERED);
+    for (i = 0; i < ROWS; i++) {
+        show_time(i, times[i], rounds[i], most[i]);
+        expect("time", times[i], expected_times[i]);
+        expect("rounds", rounds[i], expected_rounds[i]);
+        expect("most rounds", most[i], expected_most[i]);
+        all += rounds[i];
+    }
+    printf("it took %lu\n", (unsigned long)all);
+    number = admit_plan(times, ROWS - 1u, rounds, ROWS);
     printf("with a list of two times: refused %lu\n", (unsigned long)number);
+    expect("refusal", number, JUZVANEC_REFUSED_TASK_WORDS);
+    number = admit_plan(times, ROWS, rounds, ROWS - 1u);
+    printf("with a list of two rounds: refused %lu\n", (unsigned long)number);
     expect("refusal", number, JUZVANEC_REFUSED_TASK_WORDS);
 }
 

@@ -9,9 +9,9 @@
  *   it answers   *row is 0, the others are the answer
  *   it refuses   *row is the refusal's row, the others are 0
  *
- * A refusal changes nothing that was lent: table, moves, times and board are as before. juzvanec_admit
- * alone differs, since a refusal is what the program `admit` prints: there the text is written, and
- * *length and *words are given, on a refusal too.
+ * A refusal changes nothing that was lent: table, moves, times, rounds and board are as before.
+ * juzvanec_admit alone differs, since a refusal is what the program `admit` prints: there the text is
+ * written, and *length and *words are given, on a refusal too.
  *
  * The row is the lowest domain at fault for 5 to 7, the lowest row of the plan at fault for 17 to 22 (a
  * VCPU row for 17 and 21, a task row for 18, 19, 20 and 22), else 0.
@@ -40,7 +40,7 @@ extern "C" {
  *     if (juzvanec_interface() != JUZVANEC_INTERFACE)
  *         do not boot
  */
-#define JUZVANEC_INTERFACE 2u
+#define JUZVANEC_INTERFACE 3u
 
 /* Limits. */
 #define JUZVANEC_MOST_COLOURS 16u
@@ -148,7 +148,7 @@ static inline const uint32_t *juzvanec_tasks_as_words(const struct juzvanec_task
 #define JUZVANEC_REFUSED_MOVE_LIST 13u    /* the move list is shorter than three words for each move */
 #define JUZVANEC_REFUSED_UNMAPPED 14u     /* the page to release is unmapped */
 #define JUZVANEC_REFUSED_VCPU_WORDS 15u   /* reload over 10,000; VCPU words none, over 64 or no whole rows */
-#define JUZVANEC_REFUSED_TASK_WORDS 16u   /* task words none, over 640 or no whole rows; times too short */
+#define JUZVANEC_REFUSED_TASK_WORDS 16u   /* task words none, over 640 or no whole rows; times or rounds short */
 #define JUZVANEC_REFUSED_VCPU_ROW 17u     /* a VCPU row has a field outside its range */
 #define JUZVANEC_REFUSED_TASK_ROW 18u     /* a task row has a field or cost outside its rule */
 #define JUZVANEC_REFUSED_TASK_ORDER 19u   /* a task row names a lower VCPU than the row before */
@@ -209,13 +209,23 @@ void juzvanec_part(const uint32_t *tasks, size_t task_words, uint32_t vcpu, size
 
 /*
  * Admits a plan on the board, without a frame table: writes the times of the VCPUs and then of the tasks,
- * in row order, to the front of the list of times, whose rest does not change. Reload is microseconds for
- * each colour: an arrival of a task is charged for every colour that it holds and that the task in
- * question, or one ranked between the two on its VCPU, holds too. Refusals 2 to 7, 15 to 22.
+ * in row order, to the front of the list of times, and in the same order the rounds in which each was found
+ * to the front of the list of rounds; the rest of both does not change. Reload is microseconds for each
+ * colour: an arrival of a task is charged for every colour that it holds and that the task in question, or
+ * one ranked between the two on its VCPU, holds too.
+ *
+ * A round starts at t, 1 at first, works out the need in t and takes the first microsecond whose supply
+ * covers it, where the next round starts; the round in which this is t itself, or past the deadline (a
+ * VCPU's is its period), ends the search and counts too. There are at most 2 rounds plus, for each earlier
+ * row of the VCPU (for a VCPU, of the core), the deadline over that row's period, rounded up, less 1; this
+ * holds of searches that end late, too.
+ *
+ * Refusals 2 to 7, 15 to 22; 16 also where either of the two lists is shorter than the rows.
  */
 uint32_t juzvanec_admit_plan(const struct juzvanec_board *board, uint32_t reload, const uint32_t *vcpus,
                              size_t vcpu_words, const uint32_t *tasks, size_t task_words,
-                             uint32_t *times, size_t times_words, uint32_t *row);
+                             uint32_t *times, size_t times_words, uint32_t *rounds,
+                             size_t rounds_words, uint32_t *row);
 
 /*
  * The program `admit`: reads the plan in the input, as little-endian words of 32 bits, and writes what the

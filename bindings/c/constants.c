@@ -31,8 +31,8 @@ static uint32_t row, first, second;
 /* The lists have room for what is past every limit. */
 static struct juzvanec_board board;
 static uint16_t table[8192], moves[64];
-static uint32_t vcpus[256], tasks[1024], times[64], reload;
-static size_t vcpu_words, task_words, times_words;
+static uint32_t vcpus[256], tasks[1024], times[64], rounds[64], reload;
+static size_t vcpu_words, task_words, times_words, rounds_words;
 
 static uint32_t layout(uint32_t colours, uint32_t set, uint32_t index)
 {
@@ -71,7 +71,8 @@ static uint32_t recolour(uint32_t domain, uint32_t set, size_t move_words)
 
 static uint32_t admit_plan(void)
 {
-    return juzvanec_admit_plan(&board, reload, vcpus, vcpu_words, tasks, task_words, times, times_words, &row);
+    return juzvanec_admit_plan(&board, reload, vcpus, vcpu_words, tasks, task_words, times, times_words, rounds,
+                               rounds_words, &row);
 }
 
 static void fill_table(uint16_t word)
@@ -246,13 +247,14 @@ static void plan(void)
     memset(vcpus, 0xFF, sizeof vcpus);
     memset(tasks, 0xFF, sizeof tasks);
     memset(times, 0xFF, sizeof times);
+    memset(rounds, 0xFF, sizeof rounds);
     put_vcpu(0, 0, 0, 10000, 10000);
     put_vcpu(1, 3, 1, 9000, 8000);
     put_task(0, 0, 7000, 6000, 0x3);
     put_task(1, 1, 20000, 15000, 0x100);
     vcpu_words = 2u * JUZVANEC_VCPU_WORDS;
     task_words = 2u * JUZVANEC_TASK_WORDS;
-    times_words = 4;
+    times_words = rounds_words = 5; /* one more than the rows */
 }
 
 /* As many VCPUs and tasks as there may be: a colour for each VCPU, and two tasks on it. */
@@ -270,15 +272,36 @@ static void most_rows(void)
         put_task(at, at / 2u, 100000, 100000, 1u << at / 2u);
     vcpu_words = JUZVANEC_MOST_VCPUS * JUZVANEC_VCPU_WORDS;
     task_words = JUZVANEC_MOST_TASKS * JUZVANEC_TASK_WORDS;
-    times_words = JUZVANEC_MOST_VCPUS + JUZVANEC_MOST_TASKS;
+    times_words = rounds_words = JUZVANEC_MOST_VCPUS + JUZVANEC_MOST_TASKS;
 }
 
+/*
+ * The times of the plan above. No row has an earlier one on its core or its VCPU, so that its need is one
+ * number, over 1: a round goes from 1 to the microsecond that covers it, and a second one stays there.
+ */
 static void expect_times(uint32_t vcpu, uint32_t task)
 {
+    size_t i;
+
     EXPECT(times[0], 10000);
     EXPECT(times[1], vcpu);
     EXPECT(times[2], 1500);
     EXPECT(times[3], task);
+    for (i = 0; i < 4; i++)
+        EXPECT(rounds[i], 2);
+    EXPECT(times[4], UINT32_MAX);
+    EXPECT(rounds[4], UINT32_MAX);
+}
+
+/* Neither list of the plan has been written to. */
+static void expect_nothing_written(void)
+{
+    size_t i;
+
+    for (i = 0; i < sizeof times / sizeof *times; i++) {
+        EXPECT(times[i], UINT32_MAX);
+        EXPECT(rounds[i], UINT32_MAX);
+    }
 }
 
 static void test_lengths(void)
@@ -304,6 +327,11 @@ static void test_lengths(void)
     plan();
     times_words = 3;
     REFUSED(admit_plan(), JUZVANEC_REFUSED_TASK_WORDS, 0);
+    expect_nothing_written();
+    plan();
+    rounds_words = 3;
+    REFUSED(admit_plan(), JUZVANEC_REFUSED_TASK_WORDS, 0);
+    expect_nothing_written();
     plan();
     reload = JUZVANEC_MOST_RELOAD;
     ANSWERED(admit_plan());
@@ -313,10 +341,12 @@ static void test_lengths(void)
     ANSWERED(admit_plan());
     vcpu_words += JUZVANEC_VCPU_WORDS;
     times_words++;
+    rounds_words++;
     REFUSED(admit_plan(), JUZVANEC_REFUSED_VCPU_WORDS, 0);
     most_rows();
     task_words += JUZVANEC_TASK_WORDS;
     times_words++;
+    rounds_words++;
     REFUSED(admit_plan(), JUZVANEC_REFUSED_TASK_WORDS, 0);
 }
 
@@ -356,6 +386,7 @@ static void test_rows(void)
     plan();
     put_task(1, 1, 20000, 3599, 0x100);
     REFUSED(admit_plan(), JUZVANEC_REFUSED_TASK_LATE, 1);
+    expect_nothing_written();
     /* the cost with k colours is the k-th */
     for (k = 1; k <= 8; k++) {
         plan();
@@ -394,7 +425,8 @@ static void test_structs(void)
     EXPECT(memcmp(juzvanec_vcpus_as_words(vcpu_rows), vcpus, 4u * vcpu_words) != 0, 0);
     EXPECT(memcmp(juzvanec_tasks_as_words(task_rows), tasks, 4u * task_words) != 0, 0);
     ANSWERED(juzvanec_admit_plan(&board, 0, juzvanec_vcpus_as_words(vcpu_rows), vcpu_words,
-                                 juzvanec_tasks_as_words(task_rows), task_words, times, times_words, &row));
+                                 juzvanec_tasks_as_words(task_rows), task_words, times, times_words, rounds,
+                                 rounds_words, &row));
     expect_times(8000, 3600);
 }
 

@@ -20,7 +20,9 @@ static struct juzvanec_board board, as_booted;
 static uint16_t table[JUZVANEC_MOST_FRAMES], moves[JUZVANEC_MOVE_WORDS * JUZVANEC_MOST_FRAMES];
 static struct juzvanec_vcpu vcpus[JUZVANEC_MOST_VCPUS];
 static struct juzvanec_task tasks[JUZVANEC_MOST_TASKS];
-static uint32_t times[JUZVANEC_MOST_VCPUS + JUZVANEC_MOST_TASKS], first, second, row;
+static uint32_t times[JUZVANEC_MOST_VCPUS + JUZVANEC_MOST_TASKS];
+static uint32_t rounds[JUZVANEC_MOST_VCPUS + JUZVANEC_MOST_TASKS];
+static uint32_t first, second, row;
 static uint8_t input[4096], text[JUZVANEC_TEXT_BYTES];
 static size_t input_bytes, start, length;
 
@@ -81,7 +83,8 @@ static void call_part(void)
 static void call_admit_plan(void)
 {
     juzvanec_admit_plan(&board, 100, juzvanec_vcpus_as_words(vcpus), sizeof vcpus / 4,
-                        juzvanec_tasks_as_words(tasks), sizeof tasks / 4, times, sizeof times / 4, &row);
+                        juzvanec_tasks_as_words(tasks), sizeof tasks / 4, times, sizeof times / 4, rounds,
+                        sizeof rounds / 4, &row);
 }
 
 static void call_admit(void)

@@ -283,22 +283,33 @@ pub fn part(tasks: &[u32], vcpu: u32) -> &[u32] {
 }
 
 /// Admits a plan: the times of the VCPUs and then of the tasks, in row order, go to the front of the list
-/// of times, whose rest does not change. The reload is microseconds for each colour: an arrival of a task
-/// is charged for every colour that it holds and that the task in question, or one ranked between the two
-/// on its VCPU, holds too. Refusals 2 to 7, 15 to 22.
+/// of times, and in the same order the rounds in which each was found to the front of the list of rounds;
+/// the rest of both does not change. The reload is microseconds for each colour: an arrival of a task is
+/// charged for every colour that it holds and that the task in question, or one ranked between the two on
+/// its VCPU, holds too.
+///
+/// A round starts at t, 1 at first, works out the need in t and takes the first microsecond whose supply
+/// covers it, where the next round starts; the round in which this is t itself, or past the deadline (a
+/// VCPU's is its period), ends the search and counts too. There are at most 2 rounds plus, for each
+/// earlier row of the VCPU (for a VCPU, of the core), the deadline over that row's period, rounded up,
+/// less 1; this holds of searches that end late, too.
+///
+/// Refusals 2 to 7, 15 to 22; 16 also where either of the two lists is shorter than the rows.
 ///
 /// ```
 /// use juzvanec::{admit_plan, Board, Task, Vcpu};
 ///
 /// let board = Board::new(16, 64, &[0xFF]);
 /// let vcpus = [Vcpu { core: 0, domain: 0, period: 10_000, budget: 10_000 }];
-/// let task = |set| Task { vcpu: 0, period: 10_000, deadline: 10_000, set, costs: [1000; 16] };
-/// let tasks = [task(0x1), task(0x1), task(0x2)];
+/// let task = |period, set| Task { vcpu: 0, period, deadline: period, set, costs: [1000; 16] };
+/// let tasks = [task(3000, 0x1), task(10_000, 0x1), task(10_000, 0x2)];
 /// let (vcpus, tasks) = (Vcpu::words(&vcpus), Task::words(&tasks));
-/// let mut times = [0; 4];
-/// assert_eq!(admit_plan(&board, 100, vcpus, tasks, &mut times), Ok(()));
+/// let (mut times, mut rounds) = ([0; 4], [0; 4]);
+/// assert_eq!(admit_plan(&board, 100, vcpus, tasks, &mut times, &mut rounds), Ok(()));
 /// // the third waits while the second reloads what the first took from it
-/// assert_eq!(times, [10_000, 1000, 2100, 3100]);
+/// assert_eq!(times, [10_000, 1000, 2100, 4200]);
+/// // its need is 3,100 in 1 and, with a second arrival of the first, 4,200 in 3,100 and in 4,200
+/// assert_eq!(rounds, [2, 2, 2, 3]);
 /// ```
 #[inline]
 pub fn admit_plan(
@@ -311,8 +322,8 @@ pub fn admit_plan(
 ) -> Result<(), Refusal> {
     see_interface();
     let mut row = 0;
-    // SAFETY: the board has 19 words and the lists as many as they say; the list of times and a word of
-    // this function's own are lent for writing.
+    // SAFETY: the board has 19 words and the lists as many as they say; the lists of times and of rounds
+    // and a word of this function's own are lent for writing.
     let number = unsafe {
         raw::juzvanec_admit_plan(
             board,

@@ -65,7 +65,8 @@ impl Refusal {
             14 => "the page to release is unmapped",
             15 => "the reload exceeds 10,000, or the VCPU words are none, over 64 or no whole rows",
             16 => {
-                "the task words are none, over 640 or no whole rows, or the list of times is short"
+                "the task words are none, over 640 or no whole rows, \
+                 or the list of times or of rounds is short"
             }
             17 => "a field of the VCPU row is outside its range",
             18 => "a field or cost of the task row is outside its rule",

@@ -134,8 +134,9 @@ fn rows(vcpus: usize, tasks: usize) -> Result<(), Refusal> {
     let vcpu_rows: Vec<Vcpu> = (0..vcpus).map(vcpu).collect();
     let task_rows: Vec<Task> = (0..tasks).map(task).collect();
     let mut times = vec![0; vcpus + tasks];
+    let mut rounds = times.clone();
     let (vcpus, tasks) = (Vcpu::words(&vcpu_rows), Task::words(&task_rows));
-    admit_plan(&most_domains(), 0, vcpus, tasks, &mut times)
+    admit_plan(&most_domains(), 0, vcpus, tasks, &mut times, &mut rounds)
 }
 
 #[test]
@@ -183,12 +184,15 @@ fn fields_of_rows() {
     let (vcpu_words, task_words) = (Vcpu::words(&vcpus), Task::words(&tasks));
     assert_eq!(vcpu_words, [0, 0, 10_000, 10_000, 3, 1, 9000, 8000]);
     assert_eq!(task_words[20..26], [1, 20_000, 15_000, 0x100, 1600, 1500]);
-    let mut times = [0; 4];
-    let admitted = admit_plan(&board, 0, vcpu_words, task_words, &mut times);
+    let (mut times, mut rounds) = ([0; 4], [0; 4]);
+    let admitted = admit_plan(&board, 0, vcpu_words, task_words, &mut times, &mut rounds);
     assert_eq!(admitted, Ok(()));
     assert_eq!(times, [10_000, 8000, 1500, 3600]);
+    // no row has an earlier one on its core or VCPU: one round goes from 1 to the time, one stays there
+    assert_eq!(rounds, [2; 4]);
     assert_eq!(part(task_words, 1), &task_words[TASK_WORDS..]);
-    let mut admit = |vcpus: &[u32], tasks: &[u32]| admit_plan(&board, 0, vcpus, tasks, &mut times);
+    let mut admit =
+        |vcpus: &[u32], tasks: &[u32]| admit_plan(&board, 0, vcpus, tasks, &mut times, &mut rounds);
     let short = admit(&vcpu_words[..VCPU_WORDS - 1], task_words);
     assert_eq!(short, refused(15, 0));
     let short = admit(vcpu_words, &task_words[..TASK_WORDS - 1]);
@@ -235,7 +239,10 @@ const WORDS: [(u32, &[&str]); 22] = [
     (13, &["move list", "three words", "each move"]),
     (14, &["page to release", "unmapped"]),
     (15, &["10,000", "vcpu words", "none, over 64 or no"]),
-    (16, &["task words", "none, over 640 or no", "times"]),
+    (
+        16,
+        &["task words", "none, over 640 or no", "times", "rounds"],
+    ),
     (17, &["field", "vcpu row", "range"]),
     (18, &["field or cost", "task row", "rule"]),
     (19, &["task row", "lower vcpu", "the row before"]),

@@ -1,5 +1,7 @@
 //! The examples of document 01, "Examples from the recorder", through the binding. The numbers are
-//! written off that section.
+//! written off that section; the rounds are worked out by hand as document 02, No. 9, defines them. The
+//! workings have a line for each round: the t at which it starts, the need in t, and the first microsecond
+//! whose supply covers that need.
 
 use juzvanec::*;
 
@@ -14,11 +16,13 @@ fn task(vcpu: u32, period: u32, deadline: u32, set: u32, cost: u32) -> Vec<u32> 
     row
 }
 
-/// The times that a plan of one VCPU gets.
-fn times(reload: u32, vcpu: [u32; 4], rows: &[Vec<u32>]) -> Result<Vec<u32>, Refusal> {
+/// The times that a plan of one VCPU gets, and their rounds.
+fn admitted(reload: u32, vcpu: [u32; 4], rows: &[Vec<u32>]) -> Result<[Vec<u32>; 2], Refusal> {
     let board = Board::new(16, 64, &[255]);
     let mut times = vec![0; 1 + rows.len()];
-    admit_plan(&board, reload, &vcpu, &rows.concat(), &mut times).map(|()| times)
+    let mut rounds = times.clone();
+    let tasks = rows.concat();
+    admit_plan(&board, reload, &vcpu, &tasks, &mut times, &mut rounds).map(|()| [times, rounds])
 }
 
 #[test]
@@ -96,8 +100,16 @@ fn limits_of_pages_and_moves() {
 
 #[test]
 fn lone_task() {
-    let lone = |deadline| times(0, [0, 0, 5000, 3000], &[task(0, 20_000, deadline, 1, 3000)]);
-    assert_eq!(lone(7000), Ok(vec![3000, 7000]));
+    let lone = |deadline| {
+        let rows = [task(0, 20_000, deadline, 1, 3000)];
+        admitted(0, [0, 0, 5000, 3000], &rows)
+    };
+    // row         t    need   first
+    // VCPU        1   3,000   3,000
+    //         3,000   3,000   3,000
+    // task        1   3,000   7,000
+    //         7,000   3,000   7,000
+    assert_eq!(lone(7000), Ok([vec![3000, 7000], vec![2, 2]]));
     assert_eq!(lone(6999), refused(22, 0));
 }
 
@@ -106,10 +118,20 @@ fn three_tasks() {
     let three = |last| {
         let row = |set, cost| task(0, 10_000, 10_000, set, cost);
         let rows = [row(1, 4000), row(2, 4000), row(4, last)];
-        times(0, [0, 0, 10_000, 10_000], &rows)
+        admitted(0, [0, 0, 10_000, 10_000], &rows)
     };
     assert_eq!(three(3000), refused(22, 2));
-    assert_eq!(three(2000), Ok(vec![10_000, 4000, 8000, 10_000]));
+    // row          t     need    first
+    // VCPU         1   10,000   10,000
+    //         10,000   10,000   10,000
+    // task 0       1    4,000    4,000
+    //          4,000    4,000    4,000
+    // task 1       1    8,000    8,000   4,000 + 1 * 4,000
+    //          8,000    8,000    8,000   the same, since 8,000 / 10,000 rounded up is 1
+    // task 2       1   10,000   10,000   2,000 + 1 * 4,000 + 1 * 4,000
+    //         10,000   10,000   10,000   the same
+    let times = vec![10_000, 4000, 8000, 10_000];
+    assert_eq!(three(2000), Ok([times, vec![2, 2, 2, 2]]));
 }
 
 fn reloading(cost: u32) -> [Vec<u32>; 2] {
@@ -121,10 +143,25 @@ fn reloading(cost: u32) -> [Vec<u32>; 2] {
 
 #[test]
 fn reload() {
-    let second = |reload, cost| times(reload, [0, 0, 10_000, 10_000], &reloading(cost));
-    assert_eq!(second(100, 2500), Ok(vec![10_000, 1000, 3600]));
-    assert_eq!(second(100, 3000), Ok(vec![10_000, 1000, 5200]));
-    assert_eq!(second(0, 3000), Ok(vec![10_000, 1000, 4000]));
+    let second = |reload, cost| admitted(reload, [0, 0, 10_000, 10_000], &reloading(cost));
+    // row          t     need    first
+    // VCPU         1   10,000   10,000
+    //         10,000   10,000   10,000
+    // task 0       1    1,000    1,000
+    //          1,000    1,000    1,000
+    // task 1       1    3,600    3,600   2,500 + 1 * 1,100
+    //          3,600    3,600    3,600   the same, since 3,600 / 4,000 rounded up is 1
+    let times = vec![10_000, 1000, 3600];
+    assert_eq!(second(100, 2500), Ok([times, vec![2, 2, 2]]));
+    // task 1       1    4,100    4,100   3,000 + 1 * 1,100
+    //          4,100    5,200    5,200   3,000 + 2 * 1,100
+    //          5,200    5,200    5,200   the same, since 5,200 / 4,000 rounded up is 2
+    let times = vec![10_000, 1000, 5200];
+    assert_eq!(second(100, 3000), Ok([times, vec![2, 2, 3]]));
+    // task 1       1    4,000    4,000   3,000 + 1 * 1,000
+    //          4,000    4,000    4,000   the same, since 4,000 / 4,000 is 1
+    let times = vec![10_000, 1000, 4000];
+    assert_eq!(second(0, 3000), Ok([times, vec![2, 2, 2]]));
 }
 
 /// The rows of VCPU 1 among those of 0, 1 and 1, and a row of 3 cut short.

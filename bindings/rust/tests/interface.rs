@@ -22,7 +22,7 @@ const CALLS: [Call; 11] = [
     }),
     ("part", || part(&[], 0).is_empty()),
     ("admit_plan", || {
-        admit_plan(&board(), 0, &[], &[], &mut []).is_ok()
+        admit_plan(&board(), 0, &[], &[], &mut [], &mut []).is_ok()
     }),
     ("admit", || admit(&[]).admitted().is_ok()),
 ];

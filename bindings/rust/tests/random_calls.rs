@@ -174,24 +174,27 @@ fn pages() {
     assert!(answered > 5000);
 }
 
-/// The times of a plan stay in their limits, and a longer list of tasks leaves the earlier times alone.
+/// The times and the rounds of a plan stay in their limits, and a longer list of tasks leaves the earlier
+/// ones alone.
 #[test]
 fn plans() {
     let mut random = Random(2005);
-    let mut admitted = 0;
+    let (mut admitted, mut longest) = (0, 0);
     let board = Board::new(16, 64, &[0xFFFF]);
     for _ in 0..3000 {
         let period = 1 + random.below(2000) as u32;
         let vcpus = [0, 0, period, 1 + random.below(period.into()) as u32];
-        let mut tasks = Vec::new();
-        let mut before: Vec<u32> = Vec::new();
+        let mut tasks: Vec<u32> = Vec::new();
+        let (mut before, mut rounds_before) = (Vec::new(), Vec::new());
         for _ in 0..1 + random.below(5) {
             let span = 1 + random.below(30_000) as u32;
+            let periods = tasks.chunks_exact(TASK_WORDS).map(|row| row[1]);
+            let most = 2 + periods.map(|period| span.div_ceil(period) - 1).sum::<u32>();
             tasks.extend([0, span, span, 1 + random.below(65_535) as u32]);
             tasks.extend([1 + random.below(u64::from(span) / 9 + 1) as u32; 16]);
-            let mut times = [7; 8];
-            let Ok(()) = admit_plan(&board, 10, &vcpus, &tasks, &mut times) else {
-                assert_eq!(times, [7; 8]);
+            let (mut times, mut rounds) = ([7; 8], [7; 9]);
+            let Ok(()) = admit_plan(&board, 10, &vcpus, &tasks, &mut times, &mut rounds) else {
+                assert_eq!((times, rounds), ([7; 8], [7; 9]));
                 break;
             };
             admitted += 1;
@@ -199,8 +202,16 @@ fn plans() {
             assert!(times[..rows - 1].starts_with(&before));
             assert!(times[rows..].iter().all(|word| *word == 7));
             assert!((1..=span).contains(&times[rows - 1]));
+            assert!(rounds[..rows - 1].starts_with(&rounds_before));
+            assert!(rounds[rows..].iter().all(|word| *word == 7));
+            assert!((1..=most).contains(&rounds[rows - 1]));
+            // a search that ends where it starts
+            assert_eq!(rounds[rows - 1] == 1, times[rows - 1] == 1);
+            longest = longest.max(rounds[rows - 1]);
             before = times[..rows].to_vec();
+            rounds_before = rounds[..rows].to_vec();
         }
     }
     assert!(admitted > 1500);
+    assert!(longest > 5, "{longest} rounds at most");
 }

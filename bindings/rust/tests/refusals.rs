@@ -113,12 +113,14 @@ fn pages() {
     assert_eq!(numbers(&bleached), [(2, 0), (9, 0), (10, 0), (11, 0)]);
 }
 
+/// What admission is lent; of the lists of times and of rounds, their lengths.
 struct Plan {
     board: Board,
     reload: u32,
     vcpus: Vec<u32>,
     tasks: Vec<u32>,
-    room: usize,
+    times: usize,
+    rounds: usize,
 }
 
 /// Two VCPUs on core 0 with one task each, admitted.
@@ -133,31 +135,34 @@ fn plan() -> Plan {
         reload: 0,
         vcpus: vec![0, 0, 100, 50, 0, 0, 100, 50],
         tasks,
-        room: 4,
+        times: 4,
+        rounds: 4,
     }
 }
 
-/// The refusal of a spoilt plan, after the list of times was seen to be left alone; none where it is
-/// admitted.
+/// The refusal of a spoilt plan, after the lists of times and of rounds were seen to be left alone; none
+/// where it is admitted.
 fn refusal(spoil: impl Fn(&mut Plan)) -> Option<(u32, u32)> {
     let mut plan = plan();
     spoil(&mut plan);
-    let mut times = vec![7; plan.room];
+    let (mut times, mut rounds) = (vec![7; plan.times], vec![8; plan.rounds]);
     let reply = admit_plan(
         &plan.board,
         plan.reload,
         &plan.vcpus,
         &plan.tasks,
         &mut times,
+        &mut rounds,
     );
     let refusal = reply.err()?;
-    assert_eq!(times, vec![7; plan.room]);
+    assert_eq!(times, vec![7; plan.times]);
+    assert_eq!(rounds, vec![8; plan.rounds]);
     Some((refusal.number, refusal.row))
 }
 
 #[test]
 fn plans() {
-    let spoils: [SpoiltPlan; 16] = [
+    let spoils: [SpoiltPlan; 20] = [
         (2, 0, |plan| plan.board.colours = 5),
         (3, 0, |plan| plan.board.frames = 0),
         (4, 0, |plan| plan.board.domains = 9),
@@ -167,7 +172,12 @@ fn plans() {
         (15, 0, |plan| plan.reload = 10_001),
         (15, 0, |plan| plan.vcpus.truncate(7)),
         (16, 0, |plan| plan.tasks.clear()),
-        (16, 0, |plan| plan.room = 3),
+        (16, 0, |plan| plan.times = 3),
+        (16, 0, |plan| plan.rounds = 3),
+        (16, 0, |plan| (plan.times, plan.rounds) = (0, 0)),
+        // a short list of rounds goes behind 15 and before 17, as one of times does
+        (15, 0, |plan| (plan.rounds, plan.reload) = (3, 10_001)),
+        (16, 0, |plan| (plan.rounds, plan.vcpus[4]) = (3, 4)),
         (17, 1, |plan| plan.vcpus[4] = 4),
         (18, 1, |plan| plan.tasks[39] = 11),
         (19, 1, |plan| (plan.tasks[0], plan.tasks[20]) = (1, 0)),
