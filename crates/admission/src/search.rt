@@ -54,22 +54,23 @@ pub(crate) fn time_in_part(period: u32, budget: u32, reload: u32, part: &[u32], 
     let mut t: u64 = 1;
     let mut rounds: u32 = 0;
     while t <= due {
+        let taken = rounds + 1;
         let need = task_need(own, part, i, &charged, t as u32);
         if due < need {
             return Search {
                 found: Found::Late,
-                rounds: rounds + 1,
+                rounds: taken,
             };
         }
         let next = first_supply(period, budget, need as u32);
         if next <= t {
             return Search {
                 found: Found::At(t as u32),
-                rounds: rounds + 1,
+                rounds: taken,
             };
         }
         t = next;
-        rounds += 1;
+        rounds = taken;
     }
     Search {
         found: Found::Late,

@@ -58,6 +58,16 @@ cast-due c = omega (arith, c .task-word .ok)
 loop-holds : tie.Need-loop-holds Inv-loop μ-loop
 loop-holds c = (search-start (search-of (c .before .before .before .before)), c .before .before .task-word .ensures, c .charges .ensures, c .before .cost .ensures)
 
+-- in the turn t is within the deadline, and the rounds are fewer
+in-time : (c : tie.In-loop Inv-loop μ-loop) → c .before .loop .t ≤ deadline (entry c .args .part .now) (entry c .args .i)
+in-time c = omega (arith, c .before .loop .inv .1)
+
+rounds-fit : (c : tie.In-loop Inv-loop μ-loop) → c .before .loop .rounds + 1 ≤ 1000000
+rounds-fit c = omega (arith, in-time c, due-le c, c .before .loop .inv .0 .fewer)
+
+add-taken : tie.Need-add-taken Inv-loop μ-loop
+add-taken c = omega (arith, rounds-fit c)
+
 cast-task-need : tie.Need-cast-task-need Inv-loop μ-loop
 cast-task-need c = omega (arith, due-le (c .before), c .before .before .loop .inv .1)
 
@@ -83,16 +93,6 @@ need-is c =
     let h = asked c .before .loop in
     c .task-need .ensures ∙ kept-need (a .reload) (a .part .now) (a .i) _ _ (h .inv .3) (h .inv .2) (h .t) (omega (arith, s .pre .3 .few, s .pre .4))
 
--- so far, in the turn: t is within the deadline
-in-time : (c : tie.In-loop Inv-loop μ-loop) → c .before .loop .t ≤ deadline (entry c .args .part .now) (entry c .args .i)
-in-time c = omega (arith, c .before .loop .inv .1)
-
-rounds-fit : (c : tie.In-loop Inv-loop μ-loop) → c .before .loop .rounds + 1 ≤ 1000000
-rounds-fit c = omega (arith, in-time c, due-le c, c .before .loop .inv .0 .fewer)
-
-add-t19 : tie.Need-add-t19 Inv-loop μ-loop
-add-t19 c = omega (arith, rounds-fit (asked (c .before)))
-
 returns : tie.Need-returns Inv-loop μ-loop
 unfolding timeInPart roundsInPart
 returns c =
@@ -112,23 +112,17 @@ first-supply-requires c κs =
 cast-t20 : tie.Need-cast-t20 Inv-loop μ-loop
 cast-t20 c = let d = turn (c .before) in omega (arith, due-le d, d .before .loop .inv .1)
 
-add-t22 : tie.Need-add-t22 Inv-loop μ-loop
-add-t22 c = omega (arith, rounds-fit (turn (c .before)))
-
 -- the microsecond that is taken is the first whose supply covers the need in t
-taken : (c : tie.After-first-supply Inv-loop μ-loop) → let a = entry (turn c) .args in
+next-is : (c : tie.After-first-supply Inv-loop μ-loop) → let a = entry (turn c) .args in
     c .first-supply .result ≡ firstSupply (a .period) (a .budget) (taskNeed (a .reload) (a .part .now) (a .i) (turn c .before .loop .t))
-taken c = rw (need-is (c .before .before)) at (c .first-supply .ensures)
+next-is c = rw (need-is (c .before .before)) at (c .first-supply .ensures)
 
 returns-2 : tie.Need-returns-2 Inv-loop μ-loop
 unfolding timeInPart roundsInPart
 returns-2 c =
     let d = turn (c .before) in
-    let told = search-found (search-of (entry d)) (d .before .loop .inv .0) (in-time d) (rw (taken (c .before)) at (c .if2 .taken)) in
+    let told = search-found (search-of (entry d)) (d .before .loop .inv .0) (in-time d) (rw (next-is (c .before)) at (c .if2 .taken)) in
     (sym (told .0), sym (told .1))
-
-add-rounds : tie.Need-add-rounds Inv-loop μ-loop
-add-rounds c = omega (arith, rounds-fit (turn (c .before)))
 
 loop-less : tie.Need-loop-less Inv-loop μ-loop
 loop-less c = omega arith
@@ -137,8 +131,8 @@ loop-again : tie.Need-loop-again Inv-loop μ-loop
 loop-again c =
     let d = turn (c .before) in
     let h = d .before .loop in
-    let later = rw (taken (c .before)) at (c .if2 .left) in
-    (rw (taken (c .before)) (search-next (search-of (entry d)) (h .inv .0) (in-time d) later), h .inv .1, h .inv .2, h .inv .3)
+    let later = rw (next-is (c .before)) at (c .if2 .left) in
+    (rw (next-is (c .before)) (search-next (search-of (entry d)) (h .inv .0) (in-time d) later), h .inv .1, h .inv .2, h .inv .3)
 
 returns-3 : tie.Need-returns-3 Inv-loop μ-loop
 unfolding timeInPart roundsInPart
@@ -158,16 +152,14 @@ time-in-part-spec =
     cost-requires
     charges-requires
     loop-holds
+    add-taken
     cast-task-need
     task-need-requires
-    add-t19
     returns
     cast-first-supply
     first-supply-requires
     cast-t20
-    add-t22
     returns-2
-    add-rounds
     loop-less
     loop-again
     returns-3)
