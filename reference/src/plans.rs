@@ -1,6 +1,6 @@
-//! Admission of a task plan: document 01, "Plans", with the reload of document 02, No. 3, and refusals 2 to
-//! 7 and 15 to 22 of "Refusals in the order tested". A time is found as that section defines it: every
-//! microsecond from 1 is tried.
+//! Admission of a task plan: document 01, "Plans", with the reload of document 02, No. 3, the rounds of
+//! No. 9, and refusals 2 to 7 and 15 to 22 of "Refusals in the order tested". A time is found as document 01
+//! defines it: every microsecond from 1 is tried. Its rounds are counted by themselves, round by round.
 
 use std::fmt;
 
@@ -111,9 +111,9 @@ pub fn supply(period: u32, budget: u32, t: u64) -> u64 {
 
 /// An earlier row: what it asks for in each of its periods, at the expense of the rows behind it.
 #[derive(Clone, Copy, Debug, PartialEq, Eq)]
-struct Earlier {
-    period: u64,
-    charge: u64,
+pub struct Earlier {
+    pub period: u64,
+    pub charge: u64,
 }
 
 /// The need in t: the row's own cost or budget, and what the earlier rows ask for.
@@ -122,54 +122,152 @@ fn need_in(t: u64, own: u32, earlier: &[Earlier]) -> u64 {
     u64::from(own) + earlier.iter().map(asked).sum::<u64>()
 }
 
-/// The first t from 1 to the limit with supply at least the need. To save time the need is carried along
-/// and not added up anew for each t: t / period rounded up is one more at 1 and after each multiple of
-/// the period, and only there.
-fn first_time(
-    limit: u32,
-    own: u32,
-    earlier: &[Earlier],
-    supply: impl Fn(u64) -> u64,
-) -> Option<u32> {
-    let mut need = u64::from(own);
-    let mut rises = vec![1; earlier.len()];
-    let mut soonest = 1;
-    for t in 1..=limit {
-        let now = u64::from(t);
-        if now == soonest {
-            soonest = u64::MAX;
-            for (rise, row) in rises.iter_mut().zip(earlier) {
-                if *rise == now {
-                    need += row.charge;
-                    *rise += row.period;
-                }
-                soonest = soonest.min(*rise);
-            }
-        }
-        if supply(now) >= need {
-            assert_eq!(need, need_in(now, own, earlier));
-            return Some(t);
-        }
-    }
-    None
+/// What a row's time is searched by. A VCPU's deadline is its period.
+#[derive(Clone, Debug, PartialEq, Eq)]
+pub struct Search {
+    pub deadline: u32,
+    /// The row's own cost or budget.
+    pub own: u32,
+    pub earlier: Vec<Earlier>,
+    /// The period and budget that a task is supplied by. A VCPU's supply in t is t itself.
+    pub resource: Option<[u32; 2]>,
 }
 
-fn earlier_vcpus(vcpus: &[Vcpu], row: usize) -> Vec<Earlier> {
-    let on_core = |other: &&Vcpu| other.core == vcpus[row].core;
-    vcpus[..row]
-        .iter()
-        .filter(on_core)
-        .map(|other| Earlier {
+/// How a search by rounds ends: at a time, or beyond the deadline with none.
+#[derive(Clone, Copy, Debug, PartialEq, Eq)]
+pub struct Rounds {
+    pub count: u32,
+    pub time: Option<u32>,
+}
+
+impl Search {
+    pub fn of_vcpu(vcpus: &[Vcpu], row: usize) -> Self {
+        let on_core = |other: &&Vcpu| other.core == vcpus[row].core;
+        let earlier = vcpus[..row].iter().filter(on_core).map(|other| Earlier {
             period: other.period.into(),
             charge: other.budget.into(),
-        })
-        .collect()
+        });
+        Search {
+            deadline: vcpus[row].period,
+            own: vcpus[row].budget,
+            earlier: earlier.collect(),
+            resource: None,
+        }
+    }
+
+    /// That of the task at a place of its VCPU's part; no row outside the part counts.
+    pub fn of_task(vcpu: &Vcpu, reload: u32, part: &[u32], place: usize) -> Self {
+        let part = tasks(part);
+        let earlier = (0..place).map(|j| Earlier {
+            period: part[j].period.into(),
+            charge: u64::from(part[j].cost())
+                + u64::from(reload) * u64::from(reloaded(&part, j, place)),
+        });
+        Search {
+            deadline: part[place].deadline,
+            own: part[place].cost(),
+            earlier: earlier.collect(),
+            resource: Some([vcpu.period, vcpu.budget]),
+        }
+    }
+
+    pub fn supply(&self, t: u64) -> u64 {
+        match self.resource {
+            None => t,
+            Some([period, budget]) => supply(period, budget, t),
+        }
+    }
+
+    pub fn time(&self) -> Option<u32> {
+        match self.resource {
+            None => self.first_time(|t| t),
+            Some([period, budget]) => self.first_time(|t| supply(period, budget, t)),
+        }
+    }
+
+    /// The first t from 1 to the deadline with supply at least the need. To save time the need is carried
+    /// along and not added up anew for each t: t / period rounded up is one more at 1 and after each
+    /// multiple of the period, and only there.
+    fn first_time(&self, supply: impl Fn(u64) -> u64) -> Option<u32> {
+        let mut need = u64::from(self.own);
+        let mut rises = vec![1; self.earlier.len()];
+        let mut soonest = 1;
+        for t in 1..=self.deadline {
+            let now = u64::from(t);
+            if now == soonest {
+                soonest = u64::MAX;
+                for (rise, row) in rises.iter_mut().zip(&self.earlier) {
+                    if *rise == now {
+                        need += row.charge;
+                        *rise += row.period;
+                    }
+                    soonest = soonest.min(*rise);
+                }
+            }
+            if supply(now) >= need {
+                assert_eq!(need, need_in(now, self.own, &self.earlier));
+                return Some(t);
+            }
+        }
+        None
+    }
+
+    /// The first microsecond whose supply covers the need, none where that is beyond the deadline; none before
+    /// `from` covers it. As no supply falls, microseconds are tried at doubling distances up to one that
+    /// covers it, and then halfway between that and the last that does not.
+    fn first_covering(&self, from: u64, need: u64) -> Option<u64> {
+        let covers = |t| self.supply(t) >= need;
+        assert!(from == 1 || !covers(from - 1));
+        let beyond = u64::from(self.deadline) + 1;
+        let (mut without, mut with) = (from - 1, beyond);
+        let mut step = 1;
+        while without + step < with {
+            if covers(without + step) {
+                with = without + step;
+            } else {
+                without += step;
+                step *= 2;
+            }
+        }
+        while without + 1 < with {
+            let between = (without + with) / 2;
+            match covers(between) {
+                true => with = between,
+                false => without = between,
+            }
+        }
+        (with < beyond).then_some(with)
+    }
+
+    /// Document 02, No. 9: a round starts at t, works out the need in t and takes the first microsecond
+    /// whose supply covers it, until this is t or beyond the deadline; the last round counts too.
+    pub fn rounds(&self) -> Rounds {
+        let mut t = 1;
+        let mut count = 0;
+        let time = loop {
+            count += 1;
+            let need = need_in(t, self.own, &self.earlier);
+            // t was the first to cover an earlier need, which was no larger
+            match self.first_covering(t, need) {
+                Some(first) if first != t => t = first,
+                ended => break ended.map(|time| time as u32),
+            }
+        };
+        assert!(u64::from(count) <= self.bound() && count <= self.deadline);
+        Rounds { count, time }
+    }
+
+    /// The most rounds that it can take, late or not: 2, and for each earlier row the deadline over that
+    /// row's period rounded up, less 1.
+    pub fn bound(&self) -> u64 {
+        let deadline = u64::from(self.deadline);
+        let more = |row: &Earlier| deadline.div_ceil(row.period) - 1;
+        2 + self.earlier.iter().map(more).sum::<u64>()
+    }
 }
 
-/// The VCPU's supply in t is t itself.
 pub fn vcpu_time(vcpus: &[Vcpu], row: usize) -> Option<u32> {
-    let vcpu = vcpus[row];
-    first_time(vcpu.period, vcpu.budget, &earlier_vcpus(vcpus, row), |t| t)
+    Search::of_vcpu(vcpus, row).time()
 }
 
 /// The colours of row j that an arrival of j has reloaded before the task at that place is done: those of
@@ -182,24 +280,8 @@ fn reloaded(part: &[Task], j: usize, place: usize) -> u32 {
     (part[j].set & union).count_ones()
 }
 
-fn earlier_tasks(part: &[Task], reload: u32, place: usize) -> Vec<Earlier> {
-    (0..place)
-        .map(|j| Earlier {
-            period: part[j].period.into(),
-            charge: u64::from(part[j].cost())
-                + u64::from(reload) * u64::from(reloaded(part, j, place)),
-        })
-        .collect()
-}
-
-/// The time of the task at that place of its VCPU's part; no row outside the part counts.
 pub fn task_time(vcpu: &Vcpu, reload: u32, part: &[u32], place: usize) -> Option<u32> {
-    let part = tasks(part);
-    let task = part[place];
-    let earlier = earlier_tasks(&part, reload, place);
-    first_time(task.deadline, task.cost(), &earlier, |t| {
-        supply(vcpu.period, vcpu.budget, t)
-    })
+    Search::of_task(vcpu, reload, part, place).time()
 }
 
 #[derive(Clone, Debug, PartialEq, Eq)]
@@ -232,14 +314,20 @@ fn test(number: u32, rows: usize, at_fault: impl Fn(usize) -> bool) -> Result<()
     }
 }
 
+/// What admission finds of a row.
+#[derive(Clone, Copy, Debug, PartialEq, Eq)]
+pub struct Found {
+    pub time: u32,
+    pub rounds: u32,
+}
+
 impl Plan {
     pub fn rows(&self) -> usize {
         self.vcpus.len() / VCPU_WORDS + self.tasks.len() / TASK_WORDS
     }
 
-    /// The times of the VCPUs and then of the tasks, in row order, or the number and row of the refusal.
-    /// `room` is the length of the lent list of times.
-    pub fn times(&self, room: usize) -> Result<Vec<u32>, (u32, u32)> {
+    /// Refusals 2 to 20, where the lent lists of times and of rounds are that long.
+    pub fn refused(&self, times: usize, rounds: usize) -> Result<(), (u32, u32)> {
         // admission is lent no frame table, so that 3 tests F alone
         if let Some(refusal) = refused_board(&self.board, None) {
             return Err(refusal);
@@ -247,7 +335,8 @@ impl Plan {
         if self.reload > RELOAD || unfit_length(&self.vcpus, VCPU_WORDS, VCPUS) {
             return Err((15, 0));
         }
-        if unfit_length(&self.tasks, TASK_WORDS, TASKS) || room < self.rows() {
+        let rows = self.rows();
+        if unfit_length(&self.tasks, TASK_WORDS, TASKS) || times < rows || rounds < rows {
             return Err((16, 0));
         }
         let vcpus = vcpus(&self.vcpus);
@@ -262,27 +351,62 @@ impl Plan {
             let shares =
                 |other: &Task| other.vcpu != tasks[row].vcpu && other.set & tasks[row].set != 0;
             tasks.iter().any(shares)
-        })?;
-        let mut times = Vec::new();
-        for row in 0..vcpus.len() {
-            times.push(vcpu_time(&vcpus, row).ok_or((21, row as u32))?);
-        }
-        for (row, task) in tasks.iter().enumerate() {
-            let own = |other: &&Task| other.vcpu == task.vcpu;
-            let place = tasks[..row].iter().filter(own).count();
-            let part = part(&self.tasks, task.vcpu);
-            let vcpu = vcpus[task.vcpu as usize];
-            let time = task_time(&vcpu, self.reload, part, place);
-            times.push(time.ok_or((22, row as u32))?);
-        }
-        Ok(times)
+        })
     }
 
-    pub fn admit(&self, times: &mut [u32]) -> Reply<Admitted> {
-        match self.times(times.len()) {
+    /// The searches of the VCPUs and then of the tasks, in row order, of a plan that passes 2 to 20; each
+    /// with the refusal where it is late.
+    pub fn searches(&self) -> impl Iterator<Item = (Search, (u32, u32))> + '_ {
+        let vcpus = vcpus(&self.vcpus);
+        let tasks = tasks(&self.tasks);
+        (0..self.rows()).map(move |place| match place.checked_sub(vcpus.len()) {
+            None => (Search::of_vcpu(&vcpus, place), (21, place as u32)),
+            Some(row) => {
+                let name = tasks[row].vcpu;
+                let place = tasks[..row].iter().filter(|other| other.vcpu == name);
+                let vcpu = &vcpus[name as usize];
+                let part = part(&self.tasks, name);
+                let search = Search::of_task(vcpu, self.reload, part, place.count());
+                (search, (22, row as u32))
+            }
+        })
+    }
+
+    /// What is found of the VCPUs and then of the tasks, in row order, or the number and row of the refusal.
+    /// `times` and `rounds` are the lengths of the two lent lists.
+    pub fn found(&self, times: usize, rounds: usize) -> Result<Vec<Found>, (u32, u32)> {
+        self.refused(times, rounds)?;
+        let found = self.searches().map(|(search, late)| {
+            let rounds = search.rounds();
+            // by the two ways, late or not
+            assert_eq!(rounds.time, search.time());
+            let time = rounds.time.ok_or(late)?;
+            let rounds = rounds.count;
+            Ok(Found { time, rounds })
+        });
+        found.collect()
+    }
+
+    /// The times alone; `room` is the length of either list.
+    pub fn times(&self, room: usize) -> Result<Vec<u32>, (u32, u32)> {
+        let found = self.found(room, room)?;
+        Ok(found.iter().map(|row| row.time).collect())
+    }
+
+    /// The rounds alone.
+    pub fn rounds(&self, room: usize) -> Result<Vec<u32>, (u32, u32)> {
+        let found = self.found(room, room)?;
+        Ok(found.iter().map(|row| row.rounds).collect())
+    }
+
+    pub fn admit(&self, times: &mut [u32], rounds: &mut [u32]) -> Reply<Admitted> {
+        match self.found(times.len(), rounds.len()) {
             Err((number, row)) => Reply::Refused { number, row },
             Ok(found) => {
-                times[..found.len()].copy_from_slice(&found);
+                for ((row, time), rounds) in found.iter().zip(times).zip(rounds) {
+                    *time = row.time;
+                    *rounds = row.rounds;
+                }
                 Reply::Answer(Admitted)
             }
         }
@@ -463,15 +587,33 @@ mod tests {
         assert_eq!(plan.times(8), Ok([&[10_000; 2][..], &times].concat()));
     }
 
+    /// The VCPU's budget takes two rounds, and so does the first task. The second needs 3,000 + 1,100 at
+    /// first, in 4,100 a second arrival of the first more, and in 5,200 no more.
     #[test]
-    fn times_go_to_the_front_of_the_lent_list() {
+    fn times_and_rounds_go_to_the_front_of_the_lent_lists() {
         let plan = reloading(100, 3000);
-        let mut list = [7; 5];
-        assert_eq!(plan.admit(&mut list), Reply::Answer(Admitted));
-        assert_eq!(list, [10_000, 1000, 5200, 7, 7]);
-        let mut short = [7; 2];
-        assert_eq!(plan.admit(&mut short), Reply::refused(16));
-        assert_eq!(short, [7; 2]);
+        let (mut times, mut rounds) = ([7; 5], [9; 4]);
+        assert_eq!(plan.admit(&mut times, &mut rounds), Reply::Answer(Admitted));
+        assert_eq!(times, [10_000, 1000, 5200, 7, 7]);
+        assert_eq!(rounds, [2, 2, 3, 9]);
+    }
+
+    #[test]
+    fn a_refusal_writes_neither_list() {
+        let plan = reloading(100, 3000);
+        for (long, short) in [(3, 2), (5, 0), (0, 0)] {
+            for (times, rounds) in [(long, short), (short, long)] {
+                let mut lists = [vec![7; times], vec![9; rounds]];
+                let [t, r] = &mut lists;
+                assert_eq!(plan.admit(t, r), Reply::refused(16));
+                assert_eq!(lists, [vec![7; times], vec![9; rounds]]);
+            }
+        }
+        let late = reloading(100, 9000);
+        let mut lists = [[7; 3], [9; 3]];
+        let [t, r] = &mut lists;
+        assert_eq!(late.admit(t, r), Reply::Refused { number: 22, row: 1 });
+        assert_eq!(lists, [[7; 3], [9; 3]]);
     }
 
     #[test]
@@ -497,9 +639,10 @@ mod tests {
         let mut plan = recorder(0, [0, 0, 100, 101], &rows);
         plan.vcpus.extend([0, 0, 100, 100]);
         plan.reload = RELOAD + 1;
-        assert_eq!(plan.times(5), Err((15, 0)));
+        assert_eq!(plan.found(5, 0), Err((15, 0)));
         plan.reload = RELOAD;
-        assert_eq!(plan.times(5), Err((16, 0)));
+        assert_eq!(plan.found(5, 6), Err((16, 0)));
+        assert_eq!(plan.found(6, 5), Err((16, 0)));
         assert_eq!(plan.times(6), Err((17, 0)));
         plan.vcpus[3] = 1;
         assert_eq!(plan.times(6), Err((18, 2)));
@@ -515,28 +658,227 @@ mod tests {
         assert_eq!(plan.times(6), Err((22, 0)));
     }
 
+    /// A plan of one domain: VCPU rows, and task rows with a colour each, as long as there are some.
+    fn plan_of(vcpus: &[[u32; 4]], rows: &[[u32; 4]]) -> Plan {
+        let rows: Vec<[u32; 5]> = rows
+            .iter()
+            .enumerate()
+            .map(|(row, [vcpu, period, deadline, cost])| {
+                [*vcpu, *period, *deadline, 1 << row, *cost]
+            })
+            .collect();
+        let mut plan = recorder(0, [0; 4], &rows);
+        plan.vcpus = vcpus.concat();
+        plan
+    }
+
+    /// The rounds of a lone task.
+    fn alone(supplied: [u32; 2], cost: u32) -> u32 {
+        let [period, budget] = supplied;
+        let plan = plan_of(&[[0, 0, period, budget]], &[[0, LONGEST, LONGEST, cost]]);
+        plan.rounds(2).unwrap()[1]
+    }
+
+    /// Cost 1 under full supply is covered in 1, where the round started. Cost 2 is first covered in 2, and a
+    /// round from there sees that it is. So for any other cost, and where the supply starts late: of period
+    /// 5 and budget 3 it first covers 1 in 5.
+    #[test]
+    fn the_round_that_ends_the_search_counts() {
+        assert_eq!(alone([1, 1], 1), 1);
+        assert_eq!(alone([LONGEST, LONGEST], 1), 1);
+        assert_eq!(alone([1, 1], 2), 2);
+        assert_eq!(alone([LONGEST, LONGEST], LONGEST), 2);
+        assert_eq!(alone([5, 3], 1), 2);
+        // and of VCPUs
+        let plan = plan_of(&[[0, 0, 9, 1], [1, 0, 9, 2]], &[[0, 99, 99, 1]]);
+        assert_eq!(plan.rounds(3).unwrap()[..2], [1, 2]);
+    }
+
+    /// In t the last row needs 1,000 and 999 for each 1,000 begun: 1,999 at first, then 2,998, and so on. The
+    /// k-th round starts at 1,000 k − (k − 1), where k are begun, up to the 1,001st: it starts at 1,000,000,
+    /// where 1,000 are begun and 1,000 + 999,000 needed. The bound is 2 + 1,000 − 1.
+    #[test]
+    fn a_plan_at_its_bound() {
+        let whole = [0, 0, LONGEST, LONGEST];
+        let rows = [[0, 1000, 1000, 999], [0, LONGEST, LONGEST, 1000]];
+        let plan = plan_of(&[whole], &rows);
+        let found = plan.found(3, 3).unwrap();
+        assert_eq!((found[2].time, found[2].rounds), (LONGEST, 1001));
+        assert_eq!(plan.rounds(3), Ok(vec![2, 2, 1001]));
+        let bounds: Vec<u64> = plan.searches().map(|(search, _)| search.bound()).collect();
+        assert_eq!(bounds, [2, 2, 1001]);
+        // the same of VCPUs, on one core with others between
+        let vcpus = [[2, 0, 1000, 999], [1, 0, 1000, 1000], [2, 0, LONGEST, 1000]];
+        let plan = plan_of(&vcpus, &[[1, 1000, 1000, 1]]);
+        assert_eq!(plan.rounds(4), Ok(vec![2, 2, 1001, 1]));
+        assert_eq!(plan.searches().nth(2).unwrap().0.bound(), 1001);
+    }
+
+    /// Two earlier rows, of periods 4 and 7, whose multiples meet in 28 alone. The last row needs 3 + 2 + 2
+    /// in 1, 3 + 4 + 2 in 7, 3 + 6 + 4 in 9 and 3 + 8 + 4 in 13, which is 15; in 15 a third period of 7 has
+    /// begun: 17, where a fifth of 4 has: 19, which suffices. So rounds start at 1, 7, 9, 13, 15, 17 and 19.
+    #[test]
+    fn rounds_with_two_earlier_rows() {
+        let rows = [[0, 4, 4, 2], [0, 7, 7, 2], [0, 99, 20, 3]];
+        let plan = plan_of(&[[0, 0, 1, 1]], &rows);
+        let found = plan.found(4, 4).unwrap();
+        assert_eq!((found[3].time, found[3].rounds), (19, 7));
+        // 2, and 20 / 4 − 1, and 20 / 7 rounded up − 1: no more than 8
+        assert_eq!(plan.searches().nth(3).unwrap().0.bound(), 8);
+    }
+
+    /// A resource of period 5 and budget 3 supplies 1, 2 and 3 in 5, 6 and 7, then 4, 5 and 6 in 10, 11 and
+    /// 12, then 7, 8 and 9 in 15, 16 and 17. The first row, of cost 2 and period 10, takes rounds from 1 and
+    /// 6. The second, of cost 3, needs 5 in 1, first covered in 11, where it needs 7, first covered in 15; a
+    /// round from there ends the search.
+    #[test]
+    fn rounds_under_a_supply_with_gaps() {
+        let rows = [[0, 10, 10, 2], [0, 99, 20, 3]];
+        let plan = plan_of(&[[0, 0, 5, 3]], &rows);
+        assert_eq!(plan.times(3), Ok(vec![3, 6, 15]));
+        assert_eq!(plan.rounds(3), Ok(vec![2, 2, 3]));
+        // which is its bound, 2 + 20 / 10 − 1
+        assert_eq!(plan.searches().nth(2).unwrap().0.bound(), 3);
+    }
+
+    /// In t the second row needs t + 1: each round moves on by 1, and the one from the deadline ends late.
+    #[test]
+    fn a_late_search_by_single_microseconds() {
+        for deadline in [1, 2, 50, LONGEST] {
+            let rows = [[0, 1, 1, 1], [0, LONGEST, deadline, 1]];
+            let plan = plan_of(&[[0, 0, 1, 1]], &rows);
+            assert_eq!(plan.found(3, 3), Err((22, 1)));
+            let search = plan.searches().nth(2).unwrap().0;
+            let (count, time) = (deadline, None);
+            assert_eq!(search.rounds(), Rounds { count, time });
+            assert_eq!(search.bound(), u64::from(deadline) + 1);
+        }
+        let vcpus = [[0, 0, 1, 1], [0, 0, 50, 1]];
+        let plan = plan_of(&vcpus, &[[0, 9, 9, 1]]);
+        assert_eq!(plan.found(3, 3), Err((21, 1)));
+        let search = plan.searches().nth(1).unwrap().0;
+        assert_eq!((search.rounds().count, search.bound()), (50, 51));
+    }
+
+    /// Each of two cores, and of their VCPUs, has the rows of the plan with two earlier ones above. None of
+    /// them counts for the other's.
+    #[test]
+    fn rows_of_another_core_or_vcpu_do_not_count() {
+        let core = |core| [[core, 0, 4, 2], [core, 0, 7, 2], [core, 0, 20, 3]];
+        let [one, other] = [core(0), core(3)];
+        let mixed: Vec<[u32; 4]> = one
+            .into_iter()
+            .zip(other)
+            .flat_map(|(a, b)| [a, b])
+            .chain([[1, 0, 9, 9], [2, 0, 9, 9]])
+            .collect();
+        let of = |vcpu| [[vcpu, 4, 4, 2], [vcpu, 7, 7, 2], [vcpu, 99, 20, 3]];
+        let plan = plan_of(&mixed, &[of(6), of(7)].concat());
+        // the first of a part takes 2, the second needs 4 in 1 and in 4: 2 as well
+        let part = [2, 2, 7];
+        let vcpus = [2, 2, 2, 2, 7, 7, 2, 2];
+        let expected = [&vcpus[..], &part, &part].concat();
+        assert_eq!(plan.rounds(14), Ok(expected));
+    }
+
+    /// Searches with small numbers, as likely late as not.
+    fn any_search(random: &mut Random) -> Search {
+        let mut some = |n: u64| 1 + random.below(n);
+        let count = some(5) - 1;
+        let earlier = (0..count)
+            .map(|_| Earlier {
+                period: some(60),
+                charge: some(20),
+            })
+            .collect();
+        let [deadline, own, period] = [some(400), some(90), some(50)].map(|n| n as u32);
+        let budget = some(period.into()) as u32;
+        let resource = match some(4) {
+            1 => None,
+            _ => Some([period, budget]),
+        };
+        Search {
+            deadline,
+            own,
+            earlier,
+            resource,
+        }
+    }
+
     /// The need carried along is the need added up for each microsecond.
     #[test]
     fn scan_against_the_sums() {
         let mut random = Random::new(1);
-        let mut some = |n: u64| 1 + random.below(n);
         for _ in 0..300 {
-            let count = some(5) - 1;
-            let earlier: Vec<Earlier> = (0..count)
-                .map(|_| Earlier {
-                    period: some(60),
-                    charge: some(20),
-                })
-                .collect();
-            let [limit, own, period] = [some(400), some(90), some(50)].map(|n| n as u32);
-            let budget = some(period.into()) as u32;
+            let search = any_search(&mut random);
             let enough = |t: &u32| {
                 let t = (*t).into();
-                supply(period, budget, t) >= need_in(t, own, &earlier)
+                search.supply(t) >= need_in(t, search.own, &search.earlier)
             };
-            let found = (1..=limit).find(enough);
-            let scanned = first_time(limit, own, &earlier, |t| supply(period, budget, t));
-            assert_eq!(scanned, found);
+            assert_eq!(search.time(), (1..=search.deadline).find(enough));
         }
+    }
+
+    /// The microsecond that a round takes is the first of all from 1 that are tried one by one, and the
+    /// search ends at the first with supply at least the need in it.
+    #[test]
+    fn rounds_against_microseconds_from_1() {
+        let mut random = Random::new(2);
+        let (mut on_time, mut late) = (0, 0);
+        for _ in 0..3000 {
+            let search = any_search(&mut random);
+            let mut starts = vec![1];
+            let time = loop {
+                let t = *starts.last().unwrap();
+                let need = need_in(t, search.own, &search.earlier);
+                let first = (1..).find(|t| search.supply(*t) >= need).unwrap();
+                if first == t {
+                    break Some(t as u32);
+                } else if first > search.deadline.into() {
+                    break None;
+                }
+                starts.push(first);
+            };
+            let count = starts.len() as u32;
+            assert_eq!(search.rounds(), Rounds { count, time });
+            assert_eq!(search.time(), time);
+            assert!(u64::from(count) <= search.bound());
+            match time {
+                Some(_) => on_time += 1,
+                None => late += 1,
+            }
+        }
+        assert!(on_time > 500 && late > 500);
+    }
+
+    /// Of every row of random plans, and not the first late one alone, the rounds keep to the bound and to
+    /// the deadline.
+    #[test]
+    fn rounds_keep_to_their_bound() {
+        let mut random = Random::new(3);
+        let (mut at_bound, mut late) = (0, 0);
+        for i in 0..60 {
+            let mut plan = crate::random_plans::admitted(&mut random, 1 + i % VCPUS, 1 + i % 9);
+            if i % 2 == 0 {
+                // costs and budgets that are too high for some of the rows
+                for row in plan.tasks.chunks_exact_mut(TASK_WORDS) {
+                    let more = LONGEST.min(1 + 2 * row[4]);
+                    row[4..].fill(more);
+                }
+                for row in plan.vcpus.chunks_exact_mut(VCPU_WORDS) {
+                    row[3] = row[2].min(2 * row[3]);
+                }
+            }
+            assert_eq!(plan.refused(99, 99), Ok(()));
+            for (search, _) in plan.searches() {
+                let rounds = search.rounds();
+                assert!(u64::from(rounds.count) <= search.bound());
+                assert!(rounds.count <= search.deadline);
+                assert_eq!(rounds.time, search.time());
+                at_bound += u32::from(u64::from(rounds.count) == search.bound());
+                late += u32::from(rounds.time.is_none());
+            }
+        }
+        assert!(at_bound > 0 && late > 0);
     }
 }

@@ -4,12 +4,14 @@ use board::Board;
 
 mod output;
 
-// The list of times that an admission is lent holds words that tell whether one was changed.
+// The lists of times and of rounds that an admission is lent hold words that tell whether one was changed.
 fn admit(board: Board, reload: u32, vcpus: &[u32], tasks: &[u32]) {
-    let mut room = [0u32; 60];
-    let times = vectors_input::marked_list(&mut room);
-    let answer = admission::admit_plan(board, reload, vcpus, tasks, times);
-    output::admission(answer, times, vcpus.len() / 4 + tasks.len() / 20);
+    let mut time_room = [0u32; 60];
+    let times = vectors_input::marked_list(&mut time_room);
+    let mut round_room = [0u32; 60];
+    let rounds = vectors_input::marked_list(&mut round_room);
+    let answer = admission::admit_plan(board, reload, vcpus, tasks, times, rounds);
+    output::admission(answer, times, rounds, vcpus.len() / 4 + tasks.len() / 20);
 }
 
 fn admission_case() {

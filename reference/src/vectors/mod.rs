@@ -6,6 +6,7 @@ mod colours;
 mod frames;
 mod nested;
 mod plans;
+mod rounds;
 
 use std::collections::BTreeMap;
 use std::fs;

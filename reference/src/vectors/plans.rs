@@ -1,9 +1,9 @@
-//! Vectors of document 01, "Plans", with the reload of document 02, No. 3, as little-endian 32-bit words,
-//! the count of cases first. A case is an operation and its words: 0, admission (board, reload, and each
-//! with its length in front the VCPU words and the task words, then the length of the list of times); 1,
-//! the part of a VCPU; 2, the least supply.
+//! Vectors of document 01, "Plans", with the reload of document 02, No. 3, and the rounds of No. 9, as
+//! little-endian 32-bit words, the count of cases first. A case is an operation and its words: 0, admission
+//! (board, reload, and each with its length in front the VCPU words and the task words, then the lengths of
+//! the lists of times and of rounds); 1, the part of a VCPU; 2, the least supply.
 
-use super::{board_words, hash, nested, put, Set};
+use super::{board_words, hash, nested, put, rounds, Set};
 use crate::boards::{accepted, spoil};
 use crate::frames::{Board, DOMAINS};
 use crate::plans::{
@@ -54,20 +54,41 @@ pub fn set(seed: u64) -> Set {
     cases.extend(parts(&mut random));
     cases.extend(supplies(&mut random));
     cases.extend(nested_sets(&mut random));
+    cases.extend(two_lists(&mut random));
+    cases.extend(many_rounds(&mut random));
     put(&mut set, cases.len());
+    // numbers of their own, so that the lists of rounds change no plan
+    let mut random = Random::new(seed + 9);
     for case in &cases {
-        add(&mut set, case);
+        add(&mut set, &mut random, case);
     }
     set
 }
 
 enum Case {
-    Admission { plan: Plan, room: usize },
-    Part { vcpu: u32, tasks: Vec<u32> },
-    Supply { period: u32, budget: u32, t: u32 },
+    /// With a list of times of that length, and a list of rounds of any that leaves the reply as it is.
+    Admission {
+        plan: Plan,
+        room: usize,
+    },
+    /// With lists of times and of rounds of those lengths.
+    Lists {
+        plan: Plan,
+        times: usize,
+        rounds: usize,
+    },
+    Part {
+        vcpu: u32,
+        tasks: Vec<u32>,
+    },
+    Supply {
+        period: u32,
+        budget: u32,
+        t: u32,
+    },
 }
 
-/// The list of times before a call: no two words are alike.
+/// The list of times, or of rounds, before a call: no two words are alike.
 fn lent_list(length: usize) -> Vec<u32> {
     (0..length as u32)
         .map(|i| i.wrapping_mul(1_000_003).wrapping_add(7))
@@ -81,30 +102,56 @@ fn put_list(set: &mut Set, words: &[u32]) {
     }
 }
 
-/// Writes a case and its reply: for an admission also a hash of the list of times afterwards and, where
-/// it is admitted, the times of all rows.
-fn add(set: &mut Set, case: &Case) {
+/// The length of a list of rounds that leaves the reply as it is: any, where something is at fault before
+/// the lists are tested, or with them; else one that is long enough.
+fn rounds_room(random: &mut Random, plan: &Plan, times: usize) -> usize {
+    let rows = plan.rows();
+    let short = rows.saturating_sub(random.pick(&[1, 1, 2]));
+    let enough = any_room(random, rows);
+    match plan.refused(times, LONGEST_LIST) {
+        Err((..=16, _)) => random.pick(&[0, short, rows, enough]),
+        _ => enough,
+    }
+}
+
+/// Writes an admission and its reply: a hash of each list afterwards and, where the plan is admitted, the
+/// times and the rounds of all rows.
+fn add_admission(set: &mut Set, plan: &Plan, times: usize, rounds: usize) {
+    assert!(plan.vcpus.len() <= MOST_VCPU_WORDS && plan.tasks.len() <= MOST_TASK_WORDS);
+    assert!(times.max(rounds) <= LONGEST_LIST);
+    put(set, 0);
+    for word in board_words(&plan.board) {
+        put(set, word);
+    }
+    put(set, plan.reload);
+    put_list(set, &plan.vcpus);
+    put_list(set, &plan.tasks);
+    put(set, times);
+    put(set, rounds);
+    let [mut times, mut rounds] = [times, rounds].map(lent_list);
+    let reply = plan.admit(&mut times, &mut rounds);
+    set.reply("admission", reply);
+    for (name, list) in [("times", times), ("rounds", rounds)] {
+        set.line(&format!("list {}", hash(list.iter().copied())));
+        if let Reply::Answer(_) = reply {
+            let words = list[..plan.rows()].iter().map(|word| format!(" {word}"));
+            set.line(&format!("{name}{}", words.collect::<String>()));
+        }
+    }
+}
+
+/// Writes a case and its reply.
+fn add(set: &mut Set, random: &mut Random, case: &Case) {
     match case {
         Case::Admission { plan, room } => {
-            assert!(plan.vcpus.len() <= MOST_VCPU_WORDS && plan.tasks.len() <= MOST_TASK_WORDS);
-            assert!(*room <= LONGEST_LIST);
-            put(set, 0);
-            for word in board_words(&plan.board) {
-                put(set, word);
-            }
-            put(set, plan.reload);
-            put_list(set, &plan.vcpus);
-            put_list(set, &plan.tasks);
-            put(set, *room);
-            let mut list = lent_list(*room);
-            let reply = plan.admit(&mut list);
-            set.reply("admission", reply);
-            set.line(&format!("list {}", hash(list.iter().copied())));
-            if let Reply::Answer(_) = reply {
-                let times = list[..plan.rows()].iter().map(|time| format!(" {time}"));
-                set.line(&format!("times{}", times.collect::<String>()));
-            }
+            let rounds = rounds_room(random, plan, *room);
+            add_admission(set, plan, *room, rounds);
         }
+        Case::Lists {
+            plan,
+            times,
+            rounds,
+        } => add_admission(set, plan, *times, *rounds),
         Case::Part { vcpu, tasks } => {
             assert!(tasks.len() <= MOST_TASK_WORDS);
             put(set, 1);
@@ -199,7 +246,82 @@ fn nested_sets(random: &mut Random) -> Vec<Case> {
     cases
 }
 
-/// A list of times that is long enough, often just so.
+/// Plans about whose rounds a reader may err.
+fn many_rounds(random: &mut Random) -> Vec<Case> {
+    let plans = rounds::plans(random);
+    rounds::assert_told_apart(&plans);
+    let mut cases = Vec::new();
+    for plan in plans {
+        let [times, rounds] = [0; 2].map(|_| any_room(random, plan.rows()));
+        cases.push(Case::Lists {
+            plan,
+            times,
+            rounds,
+        });
+    }
+    cases
+}
+
+/// Lists of times and of rounds of different lengths, each about the number of rows. If either is too short
+/// it is 16, before 17 to 22 and after all up to 15.
+fn two_lists(random: &mut Random) -> Vec<Case> {
+    let mut cases = Vec::new();
+    let mut add = |plan: &Plan, times: usize, rounds: usize, expected: Option<(u32, u32)>| {
+        assert_eq!(plan.found(times, rounds).err(), expected);
+        let plan = plan.clone();
+        cases.push(Case::Lists {
+            plan,
+            times,
+            rounds,
+        });
+    };
+    let short = Some((16, 0));
+    for (vcpus, tasks) in [(1, 1), (1, 2), (2, 1), (4, 6), (16, 1), (1, 32), (16, 32)] {
+        let plan = admitted(random, vcpus, tasks);
+        let rows = vcpus + tasks;
+        for (one, other) in [(rows, rows + 1), (rows, LONGEST_LIST)] {
+            add(&plan, one, other, None);
+            add(&plan, other, one, None);
+        }
+        // as long as the rows of one kind, too
+        let lengths = [rows - 1, 0, vcpus, tasks];
+        // no more than one of large plans
+        let lengths = match tasks {
+            TASKS => &lengths[..1],
+            _ => &lengths,
+        };
+        for enough in [rows, LONGEST_LIST] {
+            for less in lengths {
+                add(&plan, enough, *less, short);
+                add(&plan, *less, enough, short);
+            }
+        }
+        add(&plan, rows - 1, rows - 1, short);
+    }
+    for number in 17..=22 {
+        let (plan, row) = loop {
+            let mut plan = admitted(random, 3, 5);
+            let row = 1 + random.below(2) as usize;
+            if spoil_row(random, &mut plan, number, row) {
+                break (plan, row as u32);
+            }
+        };
+        for (times, rounds) in [(8, 8), (9, 8), (8, 9)] {
+            add(&plan, times, rounds, Some((number, row)));
+        }
+        for (times, rounds) in [(8, 7), (7, 8), (9, 0)] {
+            add(&plan, times, rounds, short);
+        }
+    }
+    let mut plan = admitted(random, 2, 2);
+    plan.reload = RELOAD + 1;
+    add(&plan, 4, 3, Some((15, 0)));
+    plan.board.frames = 0;
+    add(&plan, 4, 3, Some((3, 0)));
+    cases
+}
+
+/// A list of times, or of rounds, that is long enough, often just so.
 fn any_room(random: &mut Random, rows: usize) -> usize {
     let more = 1 + random.below(12) as usize;
     LONGEST_LIST.min(rows + random.pick(&[0, 0, 0, 1, more, LONGEST_LIST]))
@@ -772,6 +894,6 @@ mod tests {
     fn every_refusal_occurs() {
         let set = set(crate::SEED);
         assert!(set.report());
-        assert!(set.stdin.len() < 1_150_000);
+        assert!(set.stdin.len() < 1_400_000);
     }
 }
