@@ -68,7 +68,7 @@ fn main() -> ExitCode {
     }
 }
 
-/// Rounds of all kinds until the bound is reached.
+/// Cases of all kinds in turn until the bound is reached.
 fn compare(seed: u64, bound: &Bound) -> Tally {
     let mut random = Random::new(seed);
     let mut tally = Tally::default();

@@ -4,7 +4,7 @@
 use reference::boards::{accepted, part_of, spoil};
 use reference::cache::colours;
 use reference::frames::Board;
-use reference::plans::{part, Plan, Vcpu, CORES, LONGEST, RELOAD, TASK_WORDS, VCPU_WORDS};
+use reference::plans::{part, Plan, Search, Vcpu, CORES, LONGEST, RELOAD, TASK_WORDS, VCPU_WORDS};
 use reference::random::Random;
 use reference::random_plans::{admitted, spoil_row};
 use reference::reply::Reply;
@@ -135,6 +135,52 @@ fn nested_plan(random: &mut Random) -> Plan {
     filled(random, board, [vcpus, tasks], size, reload)
 }
 
+/// A row that leaves little of each of its periods, and one behind it, as VCPUs or as tasks: the search for
+/// the second's time climbs from period to period and often takes all the rounds that it may. At times a
+/// third stands before either, and seldom arrives.
+fn climbing_plan(random: &mut Random) -> Plan {
+    // the model tries every microsecond up to about the square of the period
+    let period = match random.below(10_000) {
+        0 => 1000,
+        1..=30 => 100 + random.below(200) as u32,
+        _ => 3 + random.below(50) as u32,
+    };
+    let left = random.pick(&[1, 1, 1, 2]);
+    let cost = 1 + random.below(period.into()) as u32;
+    // under full supply and without a third row, so many periods begin until the second is done
+    let time = cost + cost.div_ceil(left) * (period - left);
+    let limit = random.pick(&[time, time, time + period / 2, 4 * period]);
+    let limit = limit.clamp(cost, LONGEST);
+    let mut rows = vec![[period, period - left], [limit, cost]];
+    if random.below(3) == 0 {
+        rows.insert(random.below(2) as usize, [limit, 1]);
+    }
+    let board = accepted(random, 16, 64, 1);
+    // all of the time, or all but a microsecond of some
+    let whole = [1, 0, 60, random.pick(&[60, 60, 59])];
+    let of_vcpus = random.below(3) == 0;
+    let mut task = |[period, cost]: [u32; 2]| {
+        let mut row = vec![0, period, period, part_of(random, board.grants[0])];
+        row.extend([cost; 16]);
+        row
+    };
+    let (vcpus, tasks) = match of_vcpus {
+        true => {
+            let behind = rows
+                .iter()
+                .flat_map(|[period, budget]| [2, 0, *period, *budget]);
+            (whole.into_iter().chain(behind).collect(), task([60, 1]))
+        }
+        false => (whole.to_vec(), rows.into_iter().flat_map(task).collect()),
+    };
+    Plan {
+        board,
+        reload: 0,
+        vcpus,
+        tasks,
+    }
+}
+
 /// A number near one of a plan, or any.
 fn any_number(random: &mut Random, now: u32) -> u32 {
     match random.below(4) {
@@ -203,16 +249,30 @@ pub fn damage(random: &mut Random, plan: &mut Plan) {
     }
 }
 
-fn compare(plan: &Plan, room: usize, tally: &mut Tally) {
-    let before: Vec<u32> = (0..room).map(|place| place as u32 ^ 0xC3C3_0000).collect();
+/// A list before a call, in which each word has its place in it and the list's own mark.
+fn marked(length: usize, mark: u32) -> Vec<u32> {
+    (0..length).map(|place| place as u32 ^ mark).collect()
+}
+
+/// Admits the plan with lists of times and of rounds of those lengths.
+fn compare(plan: &Plan, room: [usize; 2], tally: &mut Tally) {
     let board = lent(&plan.board);
     let vcpus = Lent::new(&plan.vcpus, GUARD);
     let tasks = Lent::new(&plan.tasks, GUARD);
-    let mut times = Lent::new(&before, GUARD);
-    let list = times.list_mut();
-    let found = interface::admit_plan(&board, plan.reload, vcpus.list(), tasks.list(), list);
-    let mut expected = before;
-    let (number, row) = match plan.admit(&mut expected) {
+    let times_before = marked(room[0], 0xC3C3_0000);
+    let rounds_before = marked(room[1], 0x3C3C_0000);
+    let mut times = Lent::new(&times_before, GUARD);
+    let mut rounds = Lent::new(&rounds_before, !GUARD);
+    let found = interface::admit_plan(
+        &board,
+        plan.reload,
+        vcpus.list(),
+        tasks.list(),
+        times.list_mut(),
+        rounds.list_mut(),
+    );
+    let (mut expected_times, mut expected_rounds) = (times_before, rounds_before);
+    let (number, row) = match plan.admit(&mut expected_times, &mut expected_rounds) {
         Reply::Answer(_) => (0, 0),
         Reply::Refused { number, row } => (number, row),
     };
@@ -224,19 +284,58 @@ fn compare(plan: &Plan, room: usize, tally: &mut Tally) {
     };
     let differences = [
         unlike("reply", found, model),
-        times.difference("times", &expected),
+        times.difference("times", &expected_times),
+        rounds.difference("rounds", &expected_rounds),
         vcpus.difference("VCPUs", &plan.vcpus),
         tasks.difference("tasks", &plan.tasks),
     ];
     let differences = differences.into_iter().flatten();
     tally.count("plan", number, &(plan, room), differences);
+    match number {
+        0 => count_rounds(plan, &expected_rounds, tally),
+        16 => count_short(plan, room, tally),
+        _ => {}
+    }
+}
+
+/// Counts the rounds of an admitted plan.
+fn count_rounds(plan: &Plan, rounds: &[u32], tally: &mut Tally) {
+    let rounds = &rounds[..plan.rows()];
+    for count in rounds {
+        tally.rounds.most = tally.rounds.most.max(*count);
+        tally.rounds.all += u64::from(*count);
+    }
+    tally.rounds.times += rounds.len() as u64;
+    // where no earlier row arrives again it is two at most, whatever the search
+    if rounds.iter().any(|count| *count > 2) {
+        let at_bound = |((search, _), count): &((Search, _), &u32)| {
+            **count > 2 && search.bound() == u64::from(**count)
+        };
+        let count = plan.searches().zip(rounds).filter(at_bound).count();
+        tally.rounds.at_bound += count as u64;
+    }
+}
+
+/// Counts a refusal for one of the two lists alone.
+fn count_short(plan: &Plan, [times, rounds]: [usize; 2], tally: &mut Tally) {
+    let other = |times, rounds| !matches!(plan.refused(times, rounds), Err((16, _)));
+    let enough = plan.rows();
+    tally.short.times += u64::from(other(enough, rounds));
+    tally.short.rounds += u64::from(other(times, enough));
 }
 
 fn any_room(random: &mut Random, plan: &Plan) -> usize {
     let rows = plan.rows();
     let short = rows.saturating_sub(1 + random.below(3) as usize);
-    let long = rows + random.below(9) as usize;
-    random.pick(&[rows, rows, rows, rows, rows, long, long, long, long, short])
+    match random.below(20) {
+        0 => random.pick(&[short, short, 0]),
+        1..=9 => rows + random.below(9) as usize,
+        _ => rows,
+    }
+}
+
+fn any_rooms(random: &mut Random, plan: &Plan) -> [usize; 2] {
+    [0; 2].map(|_| any_room(random, plan))
 }
 
 /// A plan that the tool's own generator admits, now and then, or one of those above.
@@ -246,7 +345,8 @@ pub fn sound(random: &mut Random) -> Plan {
             let [vcpus, tasks] = [4, 8].map(|most| 1 + random.below(most) as usize);
             admitted(random, vcpus, tasks)
         }
-        1..=750 => nested_plan(random),
+        1..=600 => nested_plan(random),
+        601..=900 => climbing_plan(random),
         _ => any_plan(random),
     }
 }
@@ -254,13 +354,13 @@ pub fn sound(random: &mut Random) -> Plan {
 /// A plan, the same with faults put in, and the same with a row at fault as document 01 lists them.
 pub fn family(random: &mut Random, tally: &mut Tally) {
     let plan = sound(random);
-    compare(&plan, any_room(random, &plan), tally);
+    compare(&plan, any_rooms(random, &plan), tally);
     for _ in 0..3 {
         let mut damaged = plan.clone();
         for _ in 0..1 + random.below(2) {
             damage(random, &mut damaged);
         }
-        compare(&damaged, any_room(random, &damaged), tally);
+        compare(&damaged, any_rooms(random, &damaged), tally);
     }
     let number = 17 + random.below(6) as u32;
     let rows = match number {
@@ -270,7 +370,7 @@ pub fn family(random: &mut Random, tally: &mut Tally) {
     let row = random.below(rows as u64) as usize;
     let mut spoilt = plan.clone();
     if spoil_row(random, &mut spoilt, number, row) {
-        compare(&spoilt, spoilt.rows(), tally);
+        compare(&spoilt, [spoilt.rows(); 2], tally);
     }
 }
 

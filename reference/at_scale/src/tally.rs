@@ -26,10 +26,29 @@ pub const KINDS: [(&str, &[u32]); 12] = [
     ),
 ];
 
+/// The rounds of admitted plans: of how many times, how many in all and for one time, and how many times
+/// took all that they may, where that is more than 2.
+#[derive(Default)]
+pub struct Rounds {
+    pub times: u64,
+    pub all: u64,
+    pub most: u32,
+    pub at_bound: u64,
+}
+
+/// Refusals 16 for one of the lists alone.
+#[derive(Default)]
+pub struct Short {
+    pub times: u64,
+    pub rounds: u64,
+}
+
 #[derive(Default)]
 pub struct Tally {
     pub cases: u64,
     pub differences: u64,
+    pub rounds: Rounds,
+    pub short: Short,
     seen: BTreeMap<(&'static str, u32), u64>,
 }
 
@@ -80,6 +99,20 @@ impl Tally {
         for number in 1..=22 {
             let count: u64 = KINDS.iter().map(|(kind, _)| self.of(kind, number)).sum();
             println!("refusal {number}: {count} cases");
+        }
+        let Short { times, rounds } = self.short;
+        println!("refused 16 for the list of times alone {times}, of rounds alone {rounds}");
+        let Rounds {
+            times: found,
+            all,
+            most,
+            at_bound,
+        } = self.rounds;
+        println!(
+            "{all} rounds for {found} times, {most} at most for one, {at_bound} at a bound above 2"
+        );
+        for count in [times, rounds, at_bound] {
+            missing += u32::from(count == 0);
         }
         if missing > 0 {
             println!("{missing} kinds of reply never occur");

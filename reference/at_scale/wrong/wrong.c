@@ -202,14 +202,59 @@ static uint32_t pairwise_time(uint32_t reload, const uint32_t *vcpus, const uint
     return (uint32_t)t;
 }
 
+/* All rows of the largest plan. */
+#define MOST_ROWS (JUZVANEC_MOST_VCPUS + JUZVANEC_MOST_TASKS)
+
+/* The first words of a list go behind those of the rest. */
+static void swap_parts(uint32_t *list, size_t first, size_t rows)
+{
+    uint32_t kept[MOST_ROWS];
+
+    memcpy(kept, list, first * sizeof *list);
+    memmove(list, list + first, (rows - first) * sizeof *list);
+    memcpy(list + rows - first, kept, first * sizeof *list);
+}
+
+static void spoil_rounds(uint32_t number, size_t vcpus, size_t rows, uint32_t *rounds, size_t rounds_words)
+{
+    size_t row;
+
+    if (number) {
+        if (rounds_words > 0 && wrong("rounds-refused"))
+            rounds[0] = 0;
+        return;
+    }
+    if (wrong("rounds-last"))
+        for (row = 0; row < rows; row++)
+            rounds[row]--;
+    if (wrong("rounds-shifted"))
+        memmove(rounds + 1, rounds, (rows - 1) * sizeof *rounds);
+    if (wrong("rounds-tasks-first"))
+        swap_parts(rounds, vcpus, rows);
+    if (rows < rounds_words && wrong("rounds-rest"))
+        rounds[rows] = 0;
+    if (wrong("rounds-beyond"))
+        rounds[rounds_words] = 0;
+}
+
 uint32_t juzvanec_admit_plan(const struct juzvanec_board *board, uint32_t reload, const uint32_t *vcpus,
                              size_t vcpu_words, const uint32_t *tasks, size_t task_words,
-                             uint32_t *times, size_t times_words, uint32_t *row)
+                             uint32_t *times, size_t times_words, uint32_t *rounds, size_t rounds_words,
+                             uint32_t *row)
 {
+    size_t vcpu_rows = vcpu_words / JUZVANEC_VCPU_WORDS;
+    size_t rows = vcpu_rows + task_words / JUZVANEC_TASK_WORDS;
+    uint32_t kept[MOST_ROWS];
+    /* 16 by the list of times alone: one of rounds that is too short gets as many as it holds */
+    int no_test = rounds_words < rows && rows <= MOST_ROWS && wrong("rounds-room");
     uint32_t number = right_admit_plan(board, reload, vcpus, vcpu_words, tasks, task_words, times,
-                                       times_words, row);
-    size_t rows = vcpu_words / JUZVANEC_VCPU_WORDS + task_words / JUZVANEC_TASK_WORDS;
+                                       times_words, no_test ? kept : rounds, no_test ? rows : rounds_words,
+                                       row);
 
+    if (!number && no_test)
+        memcpy(rounds, kept, rounds_words * sizeof *rounds);
+    else
+        spoil_rounds(number, vcpu_rows, rows, rounds, rounds_words);
     if (!number && wrong("plan-time"))
         times[rows - 1]++;
     if (!number && wrong("plan-pairwise"))
