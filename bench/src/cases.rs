@@ -17,6 +17,11 @@ pub trait Case {
     /// What the two functions are called in the program, ours first.
     fn symbols(&self) -> [&'static str; 2];
 
+    /// The rounds of all searches that a call makes, where they are counted.
+    fn rounds(&self) -> Option<u32> {
+        None
+    }
+
     fn run_ours(&mut self, calls: u32) {
         for _ in 0..calls {
             self.ours();
@@ -310,7 +315,10 @@ pub struct Admission {
     plan: Plan,
     lent: juzvanec::Board,
     times: Vec<u32>,
+    rounds: Vec<u32>,
     expected: u32,
+    /// Whether the rounds of all searches can be counted apart.
+    counted: bool,
 }
 
 impl Admission {
@@ -318,15 +326,26 @@ impl Admission {
         Admission {
             lent: ours::lent(&plan.board),
             times: vec![7; inputs::ROWS],
+            rounds: vec![9; inputs::ROWS],
             plan,
             expected,
+            counted: false,
+        }
+    }
+
+    /// With the rounds counted that it takes.
+    pub fn by_rounds(plan: Plan, expected: u32) -> Self {
+        Admission {
+            counted: true,
+            ..Admission::new(plan, expected)
         }
     }
 
     fn reply_ours(&mut self) -> Reply {
         let Plan { vcpus, tasks, .. } = black_box(&self.plan);
         let reload = black_box(self.plan.reload);
-        ours::admit_plan(&self.lent, reload, vcpus, tasks, &mut self.times)
+        let (times, rounds) = (&mut self.times, &mut self.rounds);
+        ours::admit_plan(&self.lent, reload, vcpus, tasks, times, rounds)
     }
 
     fn reply_base(&mut self) -> Result<(), Refusal> {
@@ -336,7 +355,20 @@ impl Admission {
             tasks,
             reload,
         } = black_box(&self.plan);
-        baseline::admit_plan(board, *reload, vcpus, tasks, &mut self.times)
+        let (times, rounds) = (&mut self.times, &mut self.rounds);
+        baseline::admit_plan(board, *reload, vcpus, tasks, times, rounds)
+    }
+
+    /// The lists as they are before a call that is compared, and no word of one is one of the other.
+    fn mark(&mut self) {
+        self.times.fill(7);
+        self.rounds.fill(9);
+    }
+
+    /// Whether the rounds counted are those that a call wrote. A refused plan has none written.
+    fn as_counted(&self) -> bool {
+        let refused = self.expected != 0;
+        !self.counted || refused || self.rounds.starts_with(&inputs::rounds(&self.plan))
     }
 }
 
@@ -350,15 +382,21 @@ impl Case for Admission {
     }
 
     fn agree(&mut self) -> bool {
-        self.times.fill(7);
+        self.mark();
         let one = self.reply_ours();
-        let times = self.times.clone();
-        self.times.fill(7);
+        let lists = (self.times.clone(), self.rounds.clone());
+        self.mark();
         let two = reply(self.reply_base(), |()| [0; 2]);
-        one == two && times == self.times && one.0 == self.expected
+        let same = lists == (self.times.clone(), self.rounds.clone());
+        one == two && same && one.0 == self.expected && self.as_counted()
     }
 
     fn symbols(&self) -> [&'static str; 2] {
         ["juzvanec_admit_plan", "baseline_admit_plan"]
+    }
+
+    fn rounds(&self) -> Option<u32> {
+        let all = || inputs::rounds(&self.plan).iter().sum();
+        self.counted.then(all)
     }
 }

@@ -107,34 +107,83 @@ pub fn nested(tasks: u32) -> Plan {
     }
 }
 
-/// One VCPU that has its core alone, and tasks that take all of it: two of short periods, and the others
-/// a sixth together. The last task has no time, and its search climbs in short steps to a deadline of
-/// 1,000,000.
-pub fn hard(tasks: u32) -> Plan {
-    let others = tasks - 3;
-    let row = |period, set| {
+const LONGEST: u32 = 1_000_000;
+
+/// The period of each of the tasks that take a sixth together.
+fn of_a_sixth(tasks: u32) -> u32 {
+    6 * (tasks - 3)
+}
+
+/// One VCPU that has its core alone, and tasks that take all of it, or nearly: two of short periods, and the
+/// others a sixth together, where the last of these has that period. The search of the last task, which has
+/// that cost, climbs in short steps to a deadline of 1,000,000.
+fn climbing(tasks: u32, period: u32, cost: u32) -> Plan {
+    let row = |period, set, cost| {
         let mut row = task(0, period, period, set, 1);
-        row[4..].fill(1);
+        row[4..].fill(cost);
         row
     };
-    let mut rows = [row(2, 1), row(3, 2)].concat();
-    for place in 0..others {
-        rows.extend(row(6 * others, 1 << (place % 16)));
+    let mut rows = [row(2, 1, 1), row(3, 2, 1)].concat();
+    for place in 0..tasks - 4 {
+        rows.extend(row(of_a_sixth(tasks), 1 << (place % 16), 1));
     }
-    rows.extend(row(1_000_000, 0x8000));
+    rows.extend(row(period, 1 << ((tasks - 4) % 16), 1));
+    rows.extend(row(LONGEST, 0x8000, cost));
     Plan {
         board: board(64, &[0xFFFF]),
         reload: 0,
-        vcpus: vec![0, 0, 1_000_000, 1_000_000],
+        vcpus: vec![0, 0, LONGEST, LONGEST],
         tasks: rows,
     }
+}
+
+/// Nothing is left for the last task, which has no time.
+pub fn hard(tasks: u32) -> Plan {
+    climbing(tasks, of_a_sixth(tasks), 1)
+}
+
+/// With one period a microsecond longer than the others' p, one of p × (p + 1) microseconds is left. The last
+/// task has as much to do as is left up to its deadline.
+pub fn long(tasks: u32) -> Plan {
+    let period = of_a_sixth(tasks);
+    climbing(tasks, period + 1, LONGEST / (period * (period + 1)))
+}
+
+/// The rounds of the rows of a plan of one VCPU that has its core alone, where there is no reload: a round
+/// goes from t to the need in t, up to one that stays at t or exceeds the deadline.
+pub fn rounds(plan: &Plan) -> Vec<u32> {
+    let rows: Vec<[u64; 3]> = plan
+        .tasks
+        .chunks(20)
+        .map(|row| [row[1], row[2], row[19]].map(u64::from))
+        .collect();
+    let of_row = |place: usize| {
+        let [_, deadline, cost] = rows[place];
+        let earlier = &rows[..place];
+        let (mut t, mut rounds) = (1u64, 0);
+        loop {
+            let asked = earlier.iter().map(|row| t.div_ceil(row[0]) * row[2]);
+            let need = cost + asked.sum::<u64>();
+            rounds += 1;
+            if need == t || need > deadline {
+                return rounds;
+            }
+            t = need;
+        }
+    };
+    // the VCPU's budget is first covered in as many microseconds
+    let of_vcpu = 1 + u32::from(plan.vcpus[3] > 1);
+    [of_vcpu]
+        .into_iter()
+        .chain((0..rows.len()).map(of_row))
+        .collect()
 }
 
 /// The rounds that the last search of the hard plan takes.
 pub fn hard_rounds(tasks: u32) -> u32 {
     let others = u64::from(tasks) - 3;
     let (mut t, mut rounds) = (1u64, 0);
-    while t <= 1_000_000 {
+    while t <= LONGEST.into() {
         t = 1 + t.div_ceil(2) + t.div_ceil(3) + others * t.div_ceil(6 * others);
         rounds += 1;
     }
@@ -245,8 +294,25 @@ pub fn growth() -> [Growth; 2] {
     ]
 }
 
+/// Plans whose searches take many rounds, and how many tasks stand before the last, whose search takes
+/// nearly all of them.
+pub fn by_rounds() -> Vec<(Named, u32)> {
+    let case = |kind, tasks: u32, plan: Plan, expected| {
+        let case = Admission::by_rounds(plan, expected);
+        let size = format!(", {tasks} tasks, by rounds");
+        (named(kind, &size, case), tasks - 1)
+    };
+    let long = |tasks| case("admission, long plan", tasks, long(tasks), ADMITTED);
+    let late = case("admission, hard plan", 32, hard(32), LATE);
+    [4, 8, 16, 32].map(long).into_iter().chain([late]).collect()
+}
+
 /// All cases, some of them twice.
 pub fn all() -> impl Iterator<Item = Named> {
     let grown = growth().into_iter().flat_map(|growth| growth.cases);
-    full_size().into_iter().chain(grown.flatten())
+    let by_rounds = by_rounds().into_iter().map(|(named, _)| named);
+    full_size()
+        .into_iter()
+        .chain(grown.flatten())
+        .chain(by_rounds)
 }

@@ -9,7 +9,7 @@ mod ours;
 
 use std::process::ExitCode;
 
-use inputs::{all, full_size, growth, Growth, Named};
+use inputs::{all, by_rounds, full_size, growth, Growth, Named};
 use measure::Pair;
 
 const USAGE: &str = "usage: bench check | times | instructions | all
@@ -142,12 +142,39 @@ fn growth_table(growth: Growth, what: What) {
     }
 }
 
+/// What a round costs: a call's numbers over the rounds that it takes.
+fn rounds_table(whats: &[What]) {
+    println!(
+        "\n## A round\n\nA whole call over all its rounds, of which nearly all are of the last task's search, \
+         with that many earlier rows. The long plan is admitted, and its rounds are those that both sides \
+         return; the hard plan is refused, and its rounds are counted apart from both.\n"
+    );
+    let heads: String = whats.iter().map(|what| what.head()).collect();
+    println!(
+        "| call | earlier rows | rounds |{heads}\n|---|--:|--:|{}",
+        "--:|".repeat(3 * whats.len())
+    );
+    for (mut named, earlier) in by_rounds() {
+        let Some(rounds) = named.case.rounds() else {
+            continue;
+        };
+        let mut row = format!("| {} | {earlier} | {rounds} |", named.kind);
+        for what in whats {
+            let pair = what.measure(&mut named);
+            let [ours, base, ratio] = what.cells(pair.map(|pair| pair.over(rounds)));
+            row += &format!(" {ours} | {base} | {ratio} |");
+        }
+        println!("{row}");
+    }
+}
+
 fn report(whats: &[What]) -> bool {
     let board = "N = 16. Look, fault and boot are on a board of four domains.";
     let plan = "With nested sets all tasks are on one VCPU, and each shares a colour with the next. The hard \
                 plan is refused with 22 at its last row, after that many rounds.";
     let text = format!("{board} {plan}");
     table("Calls at full size", &text, full_size(), whats);
+    rounds_table(whats);
     for what in whats {
         match what {
             What::Times => println!("\n## How the time grows\n\nNanoseconds, ours / Rust, ratio."),

@@ -22,6 +22,18 @@ pub struct Pair {
     pub ratio: f64,
 }
 
+impl Pair {
+    /// The same for each of so many parts of the call.
+    pub fn over(self, parts: u32) -> Self {
+        let parts = f64::from(parts);
+        Pair {
+            ours: self.ours / parts,
+            base: self.base / parts,
+            ratio: self.ratio,
+        }
+    }
+}
+
 fn timed(run: impl FnOnce()) -> Duration {
     let start = Instant::now();
     run();

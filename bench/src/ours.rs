@@ -94,10 +94,11 @@ pub fn admit_plan(
     vcpus: &[u32],
     tasks: &[u32],
     times: &mut [u32],
+    rounds: &mut [u32],
 ) -> Reply {
     let mut row = 0;
-    // SAFETY: board and lists are valid for their lengths, and the list of times lies apart; a word of
-    // this function's own is lent.
+    // SAFETY: board and lists are valid for their lengths, and the lists of times and of rounds lie apart; a
+    // word of this function's own is lent.
     let number = unsafe {
         raw::juzvanec_admit_plan(
             board,
@@ -108,6 +109,8 @@ pub fn admit_plan(
             tasks.len(),
             times.as_mut_ptr(),
             times.len(),
+            rounds.as_mut_ptr(),
+            rounds.len(),
             &mut row,
         )
     };

@@ -1,6 +1,6 @@
-//! Admission of a plan, with the reload of document 02, No. 3. A time is found by rounds: from t to the
-//! first microsecond whose supply covers the need in t, until that is t itself or lies beyond the bound.
-//! What the earlier tasks ask for is worked out once for a search.
+//! Admission of a plan, with the reload of document 02, No. 3, and the rounds of No. 9. A time is found by
+//! rounds, which are counted: from t to the first microsecond whose supply covers the need in t, until that
+//! is t itself or lies beyond the deadline. What the earlier tasks ask for is worked out once for a search.
 
 use crate::{demand, demand_rows, Board, Refusal};
 
@@ -81,7 +81,7 @@ impl<'a> Rows<'a> {
     }
 }
 
-/// Refusals 15 to 20.
+/// Refusals 15 to 20; the room is the length of the shorter of the lists of times and of rounds.
 #[inline]
 fn check(board: &Board, reload: u32, vcpus: Rows, tasks: Rows, room: usize) -> Result<(), Refusal> {
     demand(reload <= 10_000 && vcpus.fit(16), 15, 0)?;
@@ -110,19 +110,29 @@ fn first_supply(period: u64, budget: u64, amount: u64) -> u64 {
     2 * (period - budget) + before / budget * period + before % budget + 1
 }
 
+/// A time, and the rounds of its search.
+#[derive(Clone, Copy, Default)]
+struct Found {
+    time: u32,
+    rounds: u32,
+}
+
 /// A time by rounds, for any need and supply; no supply exceeds its time.
 #[inline]
-fn first_time(due: u32, need: impl Fn(u64) -> u64, supplied: impl Fn(u64) -> u64) -> Option<u32> {
+fn first_time(due: u32, need: impl Fn(u64) -> u64, supplied: impl Fn(u64) -> u64) -> Option<Found> {
     let due = u64::from(due);
     let mut t = 1;
+    let mut rounds = 0;
     while t <= due {
+        rounds += 1;
         let need = need(t);
         if need > due {
             return None;
         }
         let next = supplied(need);
         if next <= t {
-            return Some(t as u32);
+            let time = t as u32;
+            return Some(Found { time, rounds });
         }
         t = next;
     }
@@ -130,7 +140,7 @@ fn first_time(due: u32, need: impl Fn(u64) -> u64, supplied: impl Fn(u64) -> u64
 }
 
 #[inline]
-fn vcpu_time(vcpus: Rows, row: usize) -> Option<u32> {
+fn vcpu_time(vcpus: Rows, row: usize) -> Option<Found> {
     let own = vcpus.row(row);
     let need = |t: u64| {
         let earlier = vcpus.words.chunks_exact(VCPU_WORDS).take(row);
@@ -161,7 +171,7 @@ fn fill_earlier(reload: u32, part: Rows, place: usize, earlier: &mut [Earlier]) 
 
 /// The time of the row at that place of its VCPU's part.
 #[inline]
-fn task_time(vcpu: &[u32], reload: u32, part: Rows, place: usize) -> Option<u32> {
+fn task_time(vcpu: &[u32], reload: u32, part: Rows, place: usize) -> Option<Found> {
     let own = Task(part.row(place));
     let mut earlier = [(0, 0); 32];
     let earlier = &mut earlier[..place];
@@ -185,7 +195,7 @@ fn rows(words: &[u32], width: usize) -> Rows<'_> {
 }
 
 #[inline]
-fn vcpu_times(vcpus: Rows, found: &mut [u32]) -> Result<(), Refusal> {
+fn vcpu_times(vcpus: Rows, found: &mut [Found]) -> Result<(), Refusal> {
     for (row, found) in found.iter_mut().enumerate() {
         match vcpu_time(vcpus, row) {
             Some(time) => *found = time,
@@ -197,7 +207,7 @@ fn vcpu_times(vcpus: Rows, found: &mut [u32]) -> Result<(), Refusal> {
 
 /// The times of all tasks, each worked out over the part of its VCPU alone.
 #[inline]
-fn task_times(reload: u32, vcpus: Rows, tasks: Rows, found: &mut [u32]) -> Result<(), Refusal> {
+fn task_times(reload: u32, vcpus: Rows, tasks: Rows, found: &mut [Found]) -> Result<(), Refusal> {
     let mut first = 0;
     while first < tasks.count() {
         let vcpu = tasks.row(first)[0];
@@ -218,7 +228,7 @@ fn task_times(reload: u32, vcpus: Rows, tasks: Rows, found: &mut [u32]) -> Resul
     Ok(())
 }
 
-/// Times are kept apart until no row is late, so that a refusal leaves the lent list alone.
+/// Times and rounds are kept apart until no row is late, so that a refusal leaves the lent lists alone.
 #[inline(never)]
 #[export_name = "baseline_admit_plan"]
 pub fn admit_plan(
@@ -227,16 +237,20 @@ pub fn admit_plan(
     vcpus: &[u32],
     tasks: &[u32],
     times: &mut [u32],
+    rounds: &mut [u32],
 ) -> Result<(), Refusal> {
     board.check(None)?;
     let vcpus = rows(vcpus, VCPU_WORDS);
     let tasks = rows(tasks, TASK_WORDS);
-    check(board, reload, vcpus, tasks, times.len())?;
+    check(board, reload, vcpus, tasks, times.len().min(rounds.len()))?;
     let count = vcpus.count();
     let all = count + tasks.count();
-    let mut found = [0; MOST];
+    let mut found = [Found::default(); MOST];
     vcpu_times(vcpus, &mut found[..count])?;
     task_times(reload, vcpus, tasks, &mut found[count..])?;
-    times[..all].copy_from_slice(&found[..all]);
+    for ((found, time), rounds) in found[..all].iter().zip(times).zip(rounds) {
+        *time = found.time;
+        *rounds = found.rounds;
+    }
     Ok(())
 }
