@@ -1,5 +1,6 @@
 -- `admission::admit_plan` meets its contract: the first tests that refuse, or what is left to the times.
 use Prim.Native.Nat.{ℕ}
+use native.Mathlib.Omega.{arith}
 use mathlib.Core.Path.{_≡_, sym, ap, _∙_}
 use lib.ListN.{length}
 use borrow.Author.Needs.{needs}
@@ -31,7 +32,8 @@ passes-7 c = sym (c .before .before .check-board .ensures) ∙ ap paperChecked (
 checked : (c : tie.After-check-plan) → let a = entry (asked c) .args in paperChecked (c .check-plan .result) ≡ planReply (a .board) (a .reload) (a .vcpus .now) (a .tasks .now) (room (a .times .now) (a .rounds .now))
 checked c =
     let a = entry (asked c) .args in
-    c .check-plan .ensures ∙ ap (λ (n : ℕ). planReply (a .board) (a .reload) (a .vcpus .now) (a .tasks .now) n) (c .before .shorter .ensures)
+    let shorter : c .before .shorter .result ≡ room (a .times .now) (a .rounds .now) = omega (arith, c .before .shorter .ensures) in
+    c .check-plan .ensures ∙ ap (λ (n : ℕ). planReply (a .board) (a .reload) (a .vcpus .now) (a .tasks .now) n) shorter
 
 passes-20 : (c : tie.After-enum-told2) → let a = entry (told c) .args in planReply (a .board) (a .reload) (a .vcpus .now) (a .tasks .now) (room (a .times .now) (a .rounds .now)) ≡ Answers tt
 passes-20 c = sym (checked (c .before .before)) ∙ ap paperChecked (c .enum-told2 .given .1)

@@ -99,7 +99,7 @@ returns c =
     let d = asked (c .before) in
     let h = d .before .loop in
     let told = search-exceeded (search-of (entry d)) (h .inv .0) (in-time d) (omega (arith, h .inv .1, need-is (c .before))) in
-    (sym (told .0), sym (told .1))
+    (sym (told .0), omega (arith, told .1))
 
 cast-first-supply : tie.Need-cast-first-supply Inv-loop μ-loop
 cast-first-supply c = omega (arith, due-le (within c), within c .before .loop .inv .1)
@@ -122,7 +122,7 @@ unfolding timeInPart roundsInPart
 returns-2 c =
     let d = turn (c .before) in
     let told = search-found (search-of (entry d)) (d .before .loop .inv .0) (in-time d) (rw (next-is (c .before)) at (c .if2 .taken)) in
-    (sym (told .0), sym (told .1))
+    (sym (told .0), omega (arith, told .1))
 
 loop-less : tie.Need-loop-less Inv-loop μ-loop
 loop-less c = omega arith
@@ -139,7 +139,7 @@ unfolding timeInPart roundsInPart
 returns-3 c =
     let h = c .before .loop in
     let told = search-missed (search-of (c .before .before .before .before .before .before)) (h .inv .0) (omega (arith, h .inv .1)) in
-    (sym (told .0), sym (told .1))
+    (sym (told .0), omega (arith, told .1))
 
 pub time-in-part-spec : {M : Type 1} → statement M
 time-in-part-spec =

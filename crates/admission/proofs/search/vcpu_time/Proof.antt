@@ -91,7 +91,7 @@ unfolding vcpuTime vcpuRounds
 returns c =
     let d = turn (c .before) in
     let told = search-found (search-of (entry d)) (d .before .loop .inv .0) (in-time d) (rw (need-is (c .before)) at (c .if1 .taken)) in
-    (sym (told .0), sym (told .1))
+    (sym (told .0), omega (arith, told .1))
 
 add-rounds : tie.Need-add-rounds Inv-loop μ-loop
 add-rounds c = omega (arith, rounds-fit (turn (c .before)))
@@ -111,7 +111,7 @@ unfolding vcpuTime vcpuRounds
 returns-2 c =
     let h = c .before .loop in
     let told = search-missed (search-of (c .before .before .before .before .before .before .before .before)) (h .inv .0) (omega (arith, h .inv .1)) in
-    (sym (told .0), sym (told .1))
+    (sym (told .0), omega (arith, told .1))
 
 pub vcpu-time-spec : {M : Type 1} → statement M
 vcpu-time-spec =
