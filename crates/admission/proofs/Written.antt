@@ -2,7 +2,7 @@
 use Prim.Native.Nat.{ℕ, _+_, _≤_}
 use native.Mathlib.Nat.{zero-add}
 use native.Mathlib.Omega.{arith}
-use mathlib.Core.List.{List, [], _++_, map}
+use mathlib.Core.List.{List, _++_, map}
 use mathlib.Core.Path.{_≡_, sym, _∙_}
 use lib.ListN.{length, take, length-append}
 use Rattle.lists.specs.Range.{upto}
@@ -35,7 +35,7 @@ unfolding taskTimes
 length-task-times reload vcpus tasks = length-table (λ (j : ℕ). microseconds (taskTime reload vcpus tasks j)) (taskRows tasks) 0
 
 -- the numbers of the VCPUs, and after them those of the tasks
-both-kept : {f g : ℕ → ℕ} {v n i j : ℕ} {known kept : List ℕ} → Kept f 0 [] i known → i ≡ v → Kept g v known j kept → j ≡ n
+both-kept : {f g : ℕ → ℕ} {v n i j : ℕ} {blank known kept : List ℕ} → Kept f 0 blank i known → i ≡ v → Kept g v known j kept → j ≡ n
     → take (v + n) kept ≡ map f (upto v) ++ map g (upto n)
 both-kept {v = v} k l m h = rw (h, rw (l, zero-add v) at (k .front)) at (m .front)
 
@@ -51,8 +51,8 @@ module _ (reload : ℕ) (vcpus tasks : List ℕ) where
       length-append (map (vcpuRounds vcpus) (upto (vcpuRows vcpus))) (map (taskRounds reload vcpus tasks) (upto (taskRows tasks)))
       ∙ rw (length-table (vcpuRounds vcpus) (vcpuRows vcpus) 0, length-table (taskRounds reload vcpus tasks) (taskRows tasks) 0)
 
-  pub all-found : {i j : ℕ} {known known-rounds found rounds : List ℕ}
-      → Timed (vcpuTime vcpus) (vcpuRounds vcpus) (vcpuRows vcpus) 0 [] [] i known known-rounds → vcpuRows vcpus ≤ i
+  pub all-found : {i j : ℕ} {blank blank-rounds known known-rounds found rounds : List ℕ}
+      → Timed (vcpuTime vcpus) (vcpuRounds vcpus) (vcpuRows vcpus) 0 blank blank-rounds i known known-rounds → vcpuRows vcpus ≤ i
       → Timed (taskTime reload vcpus tasks) (taskRounds reload vcpus tasks) (taskRows tasks) (vcpuRows vcpus) known known-rounds j found rounds → taskRows tasks ≤ j
       → (take (vcpuRows vcpus + taskRows tasks) found ≡ allTimes reload vcpus tasks) × (take (vcpuRows vcpus + taskRows tasks) rounds ≡ allRounds reload vcpus tasks)
   unfolding allTimes allRounds vcpuTimes taskTimes

@@ -71,26 +71,26 @@ fn admit_rows(
     ensures { λ r. ⌜ now (times .exit) ≡ listAfter (unless (timeTests reload (now (vcpus .entry)) (now (tasks .entry))) tt) (allTimes reload (now (vcpus .entry)) (now (tasks .entry))) (now (times .entry)) ⌝ }
     ensures { λ r. ⌜ now (rounds .exit) ≡ listAfter (unless (timeTests reload (now (vcpus .entry)) (now (tasks .entry))) tt) (allRounds reload (now (vcpus .entry)) (now (tasks .entry))) (now (rounds .entry)) ⌝ }
 {
+    let mut found = [0u32; 48];
+    let mut counts = [0u32; 48];
     let vcpu_rows = (vcpus.len() / VCPU_WORDS) as u32;
-    let known = vcpu_times(vcpus, vcpu_rows);
-    if known.late < vcpu_rows {
+    let late = vcpu_times(vcpus, vcpu_rows, &mut found, &mut counts);
+    if late < vcpu_rows {
         return Admission::Refused(Refusal {
             number: 21,
-            row: known.late,
+            row: late,
         });
     }
     let task_rows = (tasks.len() / TASK_WORDS) as u32;
-    let all = task_times(reload, vcpus, tasks, vcpu_rows, known);
-    if all.late < task_rows {
+    let late = task_times(reload, vcpus, tasks, vcpu_rows, &mut found, &mut counts);
+    if late < task_rows {
         return Admission::Refused(Refusal {
             number: 22,
-            row: all.late,
+            row: late,
         });
     }
     let rows = (vcpu_rows + task_rows) as usize;
-    let found = all.found;
-    write_front(times, found, rows);
-    let counts = all.rounds;
-    write_front(rounds, counts, rows);
+    write_front(times, &found, rows);
+    write_front(rounds, &counts, rows);
     Admission::Admitted
 }

@@ -1,7 +1,7 @@
 // The times of all rows and their rounds, VCPUs first, up to the first row that is late: document 01, refusals
 // 21 and 22, and document 02, No. 9. They are kept apart from the lent lists until no row is late.
 ghost use mathlib.Core.Path.{_≡_};
-ghost use mathlib.Core.List.{[], _++_};
+ghost use mathlib.Core.List.{_++_};
 ghost use Prim.Native.Nat.{_≤_, _<_};
 ghost use lib.ListN.{length, take, drop};
 ghost use Rattle.rows.specs.RowWords.{vcpuRows, taskRows, vcpuOf};
@@ -24,40 +24,29 @@ use rows::part_from;
 use rows::task_word;
 use rows::vcpu_word;
 
-// The first row that is late, or the number of rows; and the times and rounds found before it.
-pub(crate) struct Times {
-    pub late: u32,
-    pub found: [u32; 48],
-    pub rounds: [u32; 48],
-}
-
-pub(crate) fn vcpu_times(vcpus: &[u32], rows: u32) -> Times
-    requires { ⌜ Vcpus (now vcpus) × (rows ≡ vcpuRows (now vcpus)) ⌝ }
-    ensures { λ r. ⌜ Timed (vcpuTime (now (vcpus .entry))) (vcpuRounds (now (vcpus .entry))) rows 0 [] [] (r .late) (r .found) (r .rounds) ⌝ }
+// The first VCPU that is late, or the number of rows; the times and rounds found before it stand in front.
+pub(crate) fn vcpu_times(
+    vcpus: &[u32],
+    rows: u32,
+    found: &mut [u32; 48],
+    rounds: &mut [u32; 48],
+) -> u32
+    requires { ⌜ Vcpus (now vcpus) × (rows ≡ vcpuRows (now vcpus)) × (48 ≡ length (now found)) × (48 ≡ length (now rounds)) ⌝ }
+    ensures { λ r. ⌜ Timed (vcpuTime (now (vcpus .entry))) (vcpuRounds (now (vcpus .entry))) rows 0 (now (found .entry)) (now (rounds .entry)) r (now (found .exit)) (now (rounds .exit)) ⌝ }
 {
-    let mut found = [0u32; 48];
-    let mut rounds = [0u32; 48];
     let mut i: u32 = 0;
     while i < rows {
         let search = vcpu_time(vcpus, i);
         let reached = search.found;
         let Found::At(time) = reached else {
-            return Times {
-                late: i,
-                found,
-                rounds,
-            };
+            return i;
         };
         let k = i as usize;
         found[k] = time;
         rounds[k] = search.rounds;
         i += 1;
     }
-    Times {
-        late: i,
-        found,
-        rounds,
-    }
+    i
 }
 
 // The time of a row of the task list, over the part of its VCPU alone, which starts at a known row.
@@ -77,21 +66,20 @@ fn task_time(reload: u32, vcpus: &[u32], tasks: &[u32], start: usize, j: u32) ->
     )
 }
 
-// The tasks' times and rounds stand after the `first` that are known. Rows stand in ascending VCPU, so that
-// the part of a row is looked for from that of the row before.
+// The same of the tasks, whose times and rounds stand after the `first` that are known. Rows stand in
+// ascending VCPU, so that the part of a row is looked for from that of the row before.
 pub(crate) fn task_times(
     reload: u32,
     vcpus: &[u32],
     tasks: &[u32],
     first: u32,
-    known: Times,
-) -> Times
-    requires { ⌜ Plan reload (now vcpus) (now tasks) × (first ≤ 16) × (48 ≡ length (known .found)) × (48 ≡ length (known .rounds)) ⌝ }
-    ensures { λ r. ⌜ Timed (taskTimeOf reload (now (vcpus .entry)) (now (tasks .entry))) (taskRounds reload (now (vcpus .entry)) (now (tasks .entry))) (taskRows (now (tasks .entry))) first (known .found) (known .rounds) (r .late) (r .found) (r .rounds) ⌝ }
+    found: &mut [u32; 48],
+    rounds: &mut [u32; 48],
+) -> u32
+    requires { ⌜ Plan reload (now vcpus) (now tasks) × (first ≤ 16) × (48 ≡ length (now found)) × (48 ≡ length (now rounds)) ⌝ }
+    ensures { λ r. ⌜ Timed (taskTimeOf reload (now (vcpus .entry)) (now (tasks .entry))) (taskRounds reload (now (vcpus .entry)) (now (tasks .entry))) (taskRows (now (tasks .entry))) first (now (found .entry)) (now (rounds .entry)) r (now (found .exit)) (now (rounds .exit)) ⌝ }
 {
     let rows = (tasks.len() / TASK_WORDS) as u32;
-    let mut found = known.found;
-    let mut rounds = known.rounds;
     let mut start = 0;
     let mut j: u32 = 0;
     while j < rows {
@@ -99,28 +87,20 @@ pub(crate) fn task_times(
         let search = task_time(reload, vcpus, tasks, start, j);
         let reached = search.found;
         let Found::At(time) = reached else {
-            return Times {
-                late: j,
-                found,
-                rounds,
-            };
+            return j;
         };
         let k = (first + j) as usize;
         found[k] = time;
         rounds[k] = search.rounds;
         j += 1;
     }
-    Times {
-        late: j,
-        found,
-        rounds,
-    }
+    j
 }
 
 // The first `count` words of a lent list are those found.
-pub(crate) fn write_front(list: &mut [u32], words: [u32; 48], count: usize)
-    requires { ⌜ (count ≤ 48) × (count ≤ length (now list)) × (48 ≡ length words) ⌝ }
-    ensures { λ r. ⌜ now (list .exit) ≡ take count words ++ drop count (now (list .entry)) ⌝ }
+pub(crate) fn write_front(list: &mut [u32], words: &[u32; 48], count: usize)
+    requires { ⌜ (count ≤ 48) × (count ≤ length (now list)) × (48 ≡ length (now words)) ⌝ }
+    ensures { λ r. ⌜ now (list .exit) ≡ take count (now (words .entry)) ++ drop count (now (list .entry)) ⌝ }
 {
     let mut k = 0;
     while k < count {

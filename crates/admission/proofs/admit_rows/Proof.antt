@@ -14,10 +14,10 @@ use Rattle.admission.proofs.admit_rows.Tie as tie
 
 -- the places where no VCPU and no task is late, and the entry
 abbrev entry : tie.Else1 → tie.Start
-entry c = c .before .before .before .before .before .before .before
+entry c = c .before .before .before .before .before .before .before .before
 
 abbrev in-tasks : tie.Else2 → tie.Else1
-in-tasks c = c .before .before .before
+in-tasks c = c .before .before .before .before
 
 abbrev at-end : tie.After-write-front2 → tie.Else2
 at-end c = c .before .before .before .before .before .before .before .before
@@ -27,7 +27,7 @@ abbrev first : tie.After-write-front2 → tie.After-write-front
 first c = c .before .before .before .before .before
 
 passes-21 : (c : tie.Else1) → let a = entry c .args in ltb (lateVcpu (a .reload) (a .vcpus .now) (a .tasks .now)) (vcpuRows (a .vcpus .now)) ≡ false
-passes-21 c = rw (← c .before .before .vcpu-times .ensures .late) (le-ltb _ _ (c .if1 .left))
+passes-21 c = rw (← c .before .vcpu-times .ensures .late) (le-ltb _ _ (c .if1 .left))
 
 cast-vcpu-rows : tie.Need-cast-vcpu-rows
 cast-vcpu-rows c = search needs
@@ -36,7 +36,7 @@ vcpu-times-requires : tie.Need-vcpu-times-requires
 vcpu-times-requires c κs = search needs
 
 returns : tie.Need-returns
-returns c = refused _ _ _ _ _ _ _ (rw (time-reply _ _ _, ← c .before .before .vcpu-times .ensures .late, lt-ltb _ _ (c .if1 .taken)))
+returns c = refused _ _ _ _ _ _ _ (rw (time-reply _ _ _, ← c .before .vcpu-times .ensures .late, lt-ltb _ _ (c .if1 .taken)))
 
 cast-task-rows : tie.Need-cast-task-rows
 cast-task-rows c = search needs
@@ -47,7 +47,7 @@ task-times-requires c κs = search needs
 returns-2 : tie.Need-returns-2
 returns-2 c =
     refused _ _ _ _ _ _ _
-    (rw (time-reply _ _ _, passes-21 (c .before .before .before), ← c .before .before .task-times .ensures .late, lt-ltb _ _ (c .if2 .taken)))
+    (rw (time-reply _ _ _, passes-21 (c .before .before .before .before), ← c .before .task-times .ensures .late, lt-ltb _ _ (c .if2 .taken)))
 
 add-rows : tie.Need-add-rows
 add-rows c = search needs
@@ -73,8 +73,8 @@ returns-3 c =
     let w = at-end second in
     let e = in-tasks w in
     let a = entry e .args in
-    let v = e .before .before .vcpu-times .ensures in
-    let t = w .before .before .task-times .ensures in
+    let v = e .before .vcpu-times .ensures in
+    let t = w .before .task-times .ensures in
     let ok : unless {A = Unit {0}} (timeTests (a .reload) (a .vcpus .now) (a .tasks .now)) tt ≡ Answers tt =
     rw (time-reply _ _ _, passes-21 e, ← t .late, le-ltb _ _ (w .if2 .left)) in
     let all = all-found (a .reload) (a .vcpus .now) (a .tasks .now) v (e .if1 .left) t (w .if2 .left) in (

@@ -18,16 +18,16 @@ use Rattle.admission.proofs.row_times.task_times.Statement.{statement}
 use Rattle.admission.proofs.row_times.task_times.Tie as tie
 
 abbrev Inv-loop : tie.InvT-loop
-Inv-loop reload vcpus tasks first rows found₀ rounds₀ start₀ j₀ found rounds start j =
+Inv-loop reload vcpus tasks first found₀ rounds₀ rows start₀ j₀ found rounds start j =
     Timing (taskTime reload vcpus tasks) (taskRounds reload vcpus tasks) (taskRows tasks) first found₀ rounds₀ j found rounds × (rows ≡ taskRows tasks)
     × (start ≤ rows) × ((m : ℕ) → m < start → (k : ℕ) → j ≤ k → k < taskRows tasks → isRowOf tasks (vcpuOf tasks k) m ≡ false)
 
 abbrev μ-loop : tie.MeasureT-loop
-μ-loop reload vcpus tasks first rows found₀ rounds₀ start₀ j₀ found rounds start j = rows - j
+μ-loop reload vcpus tasks first found₀ rounds₀ rows start₀ j₀ found rounds start j = rows - j
 
 -- the places: the entry and the turn of the loop, and the turn after its second call
 abbrev entry : tie.In-loop Inv-loop μ-loop → tie.Start Inv-loop μ-loop
-entry c = c .before .before .before .before .before .before
+entry c = c .before .before .before .before
 
 abbrev turn : tie.After-next-own Inv-loop μ-loop → tie.In-loop Inv-loop μ-loop
 turn c = c .before .before
@@ -36,7 +36,9 @@ cast-rows : tie.Need-cast-rows Inv-loop μ-loop
 cast-rows c = omega (arith, c .before .before .pre .0 .task-rows .few)
 
 loop-holds : tie.Need-loop-holds Inv-loop μ-loop
-loop-holds c = (timing-start _ _ _ _ _ _ _ _ refl (c .before .before .before .before .pre .2) refl (c .before .before .before .before .pre .3), refl, omega arith, λ m l. absurd (not-suc-le-zero l))
+loop-holds c =
+    let s = c .before .before in
+    (timing-start _ _ _ _ _ _ _ _ refl (s .pre .2) refl (s .pre .3), refl, omega arith, λ m l. absurd (not-suc-le-zero l))
 
 task-word-requires : tie.Need-task-word-requires Inv-loop μ-loop
 task-word-requires c κs = search needs
@@ -76,14 +78,14 @@ cast-k c = omega arith
 mul-found : tie.Need-mul-found Inv-loop μ-loop
 mul-found c = omega arith
 
-array-write-found : tie.Need-array-write-found Inv-loop μ-loop
-array-write-found c = omega arith
+element-write-found : tie.Need-element-write-found Inv-loop μ-loop
+element-write-found c = omega arith
 
 mul-rounds : tie.Need-mul-rounds Inv-loop μ-loop
 mul-rounds c = omega arith
 
-array-write-rounds : tie.Need-array-write-rounds Inv-loop μ-loop
-array-write-rounds c = omega arith
+element-write-rounds : tie.Need-element-write-rounds Inv-loop μ-loop
+element-write-rounds c = omega arith
 
 add-j : tie.Need-add-j Inv-loop μ-loop
 add-j c = omega arith
@@ -124,9 +126,9 @@ task-times-spec =
     add-k
     cast-k
     mul-found
-    array-write-found
+    element-write-found
     mul-rounds
-    array-write-rounds
+    element-write-rounds
     add-j
     loop-less
     loop-again

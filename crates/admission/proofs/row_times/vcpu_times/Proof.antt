@@ -2,7 +2,6 @@
 use Prim.Native.Nat.{_-_}
 use native.Mathlib.Nat.{zero-add}
 use native.Mathlib.Omega.{arith}
-use mathlib.Core.List.{[]}
 use mathlib.Core.Path.{refl, sym, ap, _∙_}
 use borrow.Author.Needs.{needs}
 use Rattle.times.specs.Times.{vcpuTime}
@@ -13,13 +12,13 @@ use Rattle.admission.proofs.row_times.vcpu_times.Statement.{statement}
 use Rattle.admission.proofs.row_times.vcpu_times.Tie as tie
 
 abbrev Inv-loop : tie.InvT-loop
-Inv-loop vcpus rows found₀ rounds₀ i₀ found rounds i = Timing (vcpuTime vcpus) (vcpuRounds vcpus) rows 0 [] [] i found rounds
+Inv-loop vcpus rows found₀ rounds₀ i₀ found rounds i = Timing (vcpuTime vcpus) (vcpuRounds vcpus) rows 0 found₀ rounds₀ i found rounds
 
 abbrev μ-loop : tie.MeasureT-loop
 μ-loop vcpus rows found₀ rounds₀ i₀ found rounds i = rows - i
 
 loop-holds : tie.Need-loop-holds Inv-loop μ-loop
-loop-holds c = timing-start _ _ _ _ _ _ _ _ refl refl refl refl
+loop-holds c = timing-start _ _ _ _ _ _ _ _ refl (c .before .pre .2) refl (c .before .pre .3)
 
 vcpu-time-requires : tie.Need-vcpu-time-requires Inv-loop μ-loop
 vcpu-time-requires c κs = (c .before .before .before .pre .0, omega arith)
@@ -41,14 +40,14 @@ cast-k c = search needs
 mul-found : tie.Need-mul-found Inv-loop μ-loop
 mul-found c = search needs
 
-array-write-found : tie.Need-array-write-found Inv-loop μ-loop
-array-write-found c = search needs
+element-write-found : tie.Need-element-write-found Inv-loop μ-loop
+element-write-found c = search needs
 
 mul-rounds : tie.Need-mul-rounds Inv-loop μ-loop
 mul-rounds c = search needs
 
-array-write-rounds : tie.Need-array-write-rounds Inv-loop μ-loop
-array-write-rounds c = search needs
+element-write-rounds : tie.Need-element-write-rounds Inv-loop μ-loop
+element-write-rounds c = search needs
 
 add-i : tie.Need-add-i Inv-loop μ-loop
 add-i c = search needs
@@ -77,9 +76,9 @@ vcpu-times-spec =
     returns
     cast-k
     mul-found
-    array-write-found
+    element-write-found
     mul-rounds
-    array-write-rounds
+    element-write-rounds
     add-i
     loop-less
     loop-again

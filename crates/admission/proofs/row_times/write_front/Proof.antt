@@ -10,10 +10,10 @@ use Rattle.admission.proofs.row_times.write_front.Statement.{statement}
 use Rattle.admission.proofs.row_times.write_front.Tie as tie
 
 abbrev Inv-loop : tie.InvT-loop
-Inv-loop list₀ count words k₀ list k = (k ≤ count) × (length list ≡ length list₀) × (list ≡ take k words ++ drop k list₀)
+Inv-loop list₀ words count k₀ list k = (k ≤ count) × (length list ≡ length list₀) × (list ≡ take k words ++ drop k list₀)
 
 abbrev μ-loop : tie.MeasureT-loop
-μ-loop list₀ count words k₀ list k = count - k
+μ-loop list₀ words count k₀ list k = count - k
 
 loop-holds : tie.Need-loop-holds Inv-loop μ-loop
 loop-holds c = (omega arith, refl, refl)
@@ -21,8 +21,8 @@ loop-holds c = (omega arith, refl, refl)
 mul-list : tie.Need-mul-list Inv-loop μ-loop
 mul-list c = search needs
 
-array-read-list : tie.Need-array-read-list Inv-loop μ-loop
-array-read-list c = search needs
+element-copy-out-list : tie.Need-element-copy-out-list Inv-loop μ-loop
+element-copy-out-list c = search needs
 
 mul-list-2 : tie.Need-mul-list-2 Inv-loop μ-loop
 mul-list-2 c = search needs
@@ -38,11 +38,11 @@ loop-less c = search needs
 
 loop-again : tie.Need-loop-again Inv-loop μ-loop
 loop-again c =
-    let s = c .before .before in
-    let h = c .before .loop in
-    let in-words : h .k < length (s .args .t2) = omega (arith, s .pre .0, s .pre .2) in
+    let s = c .before .before .before in
+    let h = c .before .before .loop in
+    let in-words : h .k < length (s .args .words .now) = omega (arith, s .pre .0, s .pre .2) in
     let in-list : h .k < length (s .args .list .now) = omega (arith, s .pre .1) in
-    (omega arith, simp length-set (h .inv .1), rw (h .inv .2) (write-next (s .args .t2) (s .args .list .now) (h .k) in-words in-list))
+    (omega arith, simp length-set (h .inv .1), rw (h .inv .2) (write-next (s .args .words .now) (s .args .list .now) (h .k) in-words in-list))
 
 same-length : tie.Need-same-length Inv-loop μ-loop
 same-length c = search needs
@@ -52,7 +52,7 @@ returns c =
     let s = c .before .before in
     let h = c .before .loop in
     let all : h .k ≡ s .args .count = omega arith in
-    h .inv .2 ∙ ap (λ (n : ℕ). take n (s .args .t2) ++ drop n (s .args .list .now)) all
+    h .inv .2 ∙ ap (λ (n : ℕ). take n (s .args .words .now) ++ drop n (s .args .list .now)) all
 
 pub write-front-spec : {M : Type 1} → statement M
 write-front-spec =
@@ -62,7 +62,7 @@ write-front-spec =
     μ-loop
     loop-holds
     mul-list
-    array-read-list
+    element-copy-out-list
     mul-list-2
     slice-write-list
     add-k
