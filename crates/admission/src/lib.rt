@@ -1,12 +1,12 @@
-// Admission of a plan: document 01, "Plans", refusals 2 to 7 and 15 to 22 in order, and the times and
-// their rounds (document 02, No. 9) in row order to two lent lists. The need of a row and the search for its time are in `need` and `search`.
+// Admission of a plan: document 01, "Plans", refusals 2 to 7 and 15 to 22 in order, and to two lent lists
+// the times in row order and their rounds (document 02, No. 9). The need of a row and the search for its
+// time are in `need` and `search`.
 mod need;
 mod row_times;
 mod search;
 
 ghost use mathlib.Core.Path.{_≡_};
 ghost use Prim.Native.Nat.{_+_, _≤_, min};
-ghost use lib.ListN.{length};
 ghost use Rattle.refusal.specs.Reply.{unless};
 ghost use Rattle.rows.specs.RowWords.{vcpuRows, taskRows};
 ghost use Rattle.rows.specs.Valid.{Plan};

@@ -95,20 +95,20 @@ reload-claims =
 round-claims : RoundClaims
 round-claims =
     record {
-      task-rounds-bounded = round.task-rounds-bounded;
-      vcpu-rounds-bounded = round.vcpu-rounds-bounded;
+      task-rounds-bounded = λ b reload vcpus tasks room p. round.task-rounds-bounded reload vcpus tasks (reached.plan-of b reload vcpus tasks room p);
+      vcpu-rounds-bounded = λ b reload vcpus tasks room p. round.vcpu-rounds-bounded vcpus (reached.plan-of b reload vcpus tasks room p .vcpu-rows);
       bound-is-reached = (reached.crowded-rounds, reached.crowded-bound);
       bound-grows = round.bound-grows;
       long-period-adds-nothing = round.long-period-adds-nothing;
-      most-task-bound = round.most-task-bound;
-      most-vcpu-bound = round.most-vcpu-bound;
+      most-task-bound = λ b reload vcpus tasks room p. round.most-task-bound tasks (reached.plan-of b reload vcpus tasks room p .task-rows);
+      most-vcpu-bound = λ b reload vcpus tasks room p. round.most-vcpu-bound vcpus (reached.plan-of b reload vcpus tasks room p .vcpu-rows);
       task-bound-at-most = reached.task-bound-at-most;
-      task-rounds-in-time = round.task-rounds-in-time;
+      task-rounds-in-time = λ b reload vcpus tasks room p. round.task-rounds-in-time reload vcpus tasks (reached.plan-of b reload vcpus tasks room p);
       vcpu-rounds-in-time = round.vcpu-rounds-in-time;
       a-million-task-rounds = reached.a-million-task-rounds;
       a-million-vcpu-rounds = reached.a-million-vcpu-rounds;
-      task-search-ends = round.task-search-ends;
-      vcpu-search-ends = round.vcpu-search-ends;
+      task-search-ends = λ b reload vcpus tasks room p. round.task-search-ends reload vcpus tasks (reached.plan-of b reload vcpus tasks room p);
+      vcpu-search-ends = λ b reload vcpus tasks room p. round.vcpu-search-ends vcpus (reached.plan-of b reload vcpus tasks room p .vcpu-rows);
     }
 
 interface-claims : InterfaceClaims

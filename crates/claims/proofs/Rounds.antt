@@ -1,22 +1,29 @@
 -- Plans that reach the bound, and the most rounds that there can be: what a round takes is worked out at each place, and the places are counted.
-use Prim.Native.Nat.{ℕ, suc, _+_, _-_, _*_, _/_, _<_, _≤_}
-use native.Mathlib.Nat.{le-refl, lt-irrefl, add-zero, zero-mul, mul-one, mul-zero, div-one, div-add-mod'}
+use Prim.Native.Nat.{ℕ, suc, _+_, _-_, _*_, _<_, _≤_}
+use native.Mathlib.Nat.{le-refl, div-add-mod'}
 use native.Mathlib.Omega.{arith}
-use mathlib.Core.List.{_++_}
-use mathlib.Core.Path.{_≡_, refl, sym, ap, _∙_}
+use mathlib.Core.List.{List, _++_}
+use mathlib.Core.Path.{_≡_, refl, ap, _∙_}
 use lib.Count.{ones, onesIn}
 use Rattle.lists.specs.Range.{from, keep, lowestFrom}
 use Rattle.supply.specs.Supply.{supply, firstSupply, Budget}
+use Rattle.board.specs.declared.Board.{Board}
 use Rattle.rows.specs.RowWords.{cost}
 use Rattle.rows.specs.Reload.{heldFrom, reloadedSet, reloaded, charge}
 use Rattle.rows.specs.Part.{partStart, rowsFrom, partOf}
+use Rattle.rows.specs.Valid.{Plan}
+use Rattle.plan.proofs.Validity.{valid}
 use Rattle.times.specs.Times.{arrivals, need, taskNeed, vcpuCharge, vcpuNeed}
-use Rattle.times.specs.Rounds.{roundsFrom, rounds, roundsInPart, taskRounds, vcpuRounds, roundsBound, taskBound}
+use Rattle.times.specs.Rounds.{rounds, roundsInPart, taskRounds, vcpuRounds, roundsBound, taskBound}
 use Rattle.times.proofs.Search.{Searchable}
 use Rattle.times.proofs.Bounds.{task-searchable, vcpu-searchable}
 use Rattle.times.proofs.Counted.{as-many-as-microseconds, climb, goes-on}
 use Rattle.examples.specs.Table.{vcpu, task}
-use Rattle.claims.specs.Rounds.{crowded, full, shortest}
+use Rattle.claims.specs.Rounds.{crowded, full, shortest, Passes}
+
+-- what is left of a plan that passes
+pub plan-of : (b : Board) (reload : ℕ) (vcpus tasks : List ℕ) (room : ℕ) → Passes b reload vcpus tasks room → Plan reload vcpus tasks
+plan-of b reload vcpus tasks room p = valid b reload vcpus tasks room (p .1) (p .0)
 
 pub task-bound-at-most : taskBound (shortest 31 ++ task 1000000 1000000 0x2 1) 31 ≡ 30999971
 unfolding taskBound roundsBound arrivals

@@ -1,15 +1,19 @@
 -- The claims on how long admission can take: document 02, No. 9. `times/specs/Rounds.antt` says what a round is. The bound of a task is 2 and, for each earlier
 -- row of its VCPU, the task's deadline over that row's period, rounded up, less 1; of a VCPU the same over the earlier rows of its core, with its
 -- period for the deadline. A later deadline and shorter periods of earlier rows raise it.
-use Prim.Native.Nat.{ℕ, zero, suc, _+_, _<_, _≤_}
+use Prim.Native.Nat.{ℕ, zero, suc, _+_, _-_, _<_, _≤_}
 use mathlib.Core.Bool.{Bool}
 use mathlib.Core.List.{List, [], _++_}
 use mathlib.Core.Path.{_≡_}
-use Rattle.supply.specs.Supply.{supply, Budget}
-use Rattle.rows.specs.RowWords.{vcpuPeriod, deadline, vcpuRows, taskRows}
-use Rattle.rows.specs.Valid.{Tasks, Vcpus, Plan}
+use Rattle.refusal.specs.Reply.{Answers}
+use Rattle.board.specs.declared.Board.{Board}
+use Rattle.board.specs.Tests.{boardReply}
+use Rattle.supply.specs.Supply.{supply}
+use Rattle.rows.specs.RowWords.{vcpuPeriod, budget, vcpuOf, deadline, vcpuRows, taskRows}
+use Rattle.rows.specs.Part.{partStart, partOf}
+use Rattle.plan.specs.Tests.{planReply}
 use Rattle.times.specs.Times.{taskNeed, vcpuNeed}
-use Rattle.times.specs.Rounds.{roundsFrom, roundsInPart, taskRounds, vcpuRounds, roundsBound, taskBound, vcpuBound}
+use Rattle.times.specs.Rounds.{roundsFrom, taskRounds, vcpuRounds, roundsBound, taskBound, vcpuBound}
 use Rattle.examples.specs.Table.{vcpu, task}
 
 -- one earlier row that takes 999 of every 1,000 microseconds of a whole core, and one of cost 1,000 with 1,000,000 to its deadline
@@ -25,11 +29,18 @@ abbrev pub shortest : ℕ → List ℕ
 shortest zero = []
 shortest (suc n) = task 1 1 0x1 1 ++ shortest n
 
+-- a plan that passes refusals 2 to 20, with lists of so much room: it is admitted, or refused with 21 or 22
+abbrev pub Passes : Board → ℕ → List ℕ → List ℕ → ℕ → Type 0
+Passes b reload vcpus tasks room = (boardReply b (b .frames) ≡ Answers tt) × (planReply b reload vcpus tasks room ≡ Answers tt)
+
 pub record RoundClaims : Type 0 where
-  -- The rounds of a row of a plan that passes 2 to 19 are within the bound, whether its search ends at a time or late.
+  -- The rounds of each row are within the bound, whether its search ends at a time or late.
   pub task-rounds-bounded :
-      (reload : ℕ) (vcpus tasks : List ℕ) → Plan reload vcpus tasks → (j : ℕ) → j < taskRows tasks → taskRounds reload vcpus tasks j ≤ taskBound tasks j
-  pub vcpu-rounds-bounded : (vcpus : List ℕ) → Vcpus vcpus → (i : ℕ) → i < vcpuRows vcpus → vcpuRounds vcpus i ≤ vcpuBound vcpus i
+      (b : Board) (reload : ℕ) (vcpus tasks : List ℕ) (room : ℕ) → Passes b reload vcpus tasks room
+      → (j : ℕ) → j < taskRows tasks → taskRounds reload vcpus tasks j ≤ taskBound tasks j
+  pub vcpu-rounds-bounded :
+      (b : Board) (reload : ℕ) (vcpus tasks : List ℕ) (room : ℕ) → Passes b reload vcpus tasks room
+      → (i : ℕ) → i < vcpuRows vcpus → vcpuRounds vcpus i ≤ vcpuBound vcpus i
   -- The bound is reached: 1,001 rounds of 1,001.
   pub bound-is-reached : (taskRounds 0 (vcpu 1000000 1000000) crowded 1 ≡ 1001) × (taskBound crowded 1 ≡ 1001)
   -- A later deadline and shorter periods of earlier rows never lower it; a row whose period is the deadline or more adds nothing.
@@ -39,20 +50,28 @@ pub record RoundClaims : Type 0 where
   pub long-period-adds-nothing :
       (counts : ℕ → Bool) (period : ℕ → ℕ) (due n : ℕ) → 1 ≤ due → due ≤ period n → roundsBound counts period due (suc n) ≡ roundsBound counts period due n
   -- By its letter the bound is at most 30,999,971 for a task (31 earlier rows of period 1, deadline 1,000,000) and 14,999,987 for a VCPU (15 of them).
-  pub most-task-bound : (tasks : List ℕ) → Tasks tasks → (j : ℕ) → j < taskRows tasks → taskBound tasks j ≤ 30999971
-  pub most-vcpu-bound : (vcpus : List ℕ) → Vcpus vcpus → (i : ℕ) → i < vcpuRows vcpus → vcpuBound vcpus i ≤ 14999987
+  pub most-task-bound :
+      (b : Board) (reload : ℕ) (vcpus tasks : List ℕ) (room : ℕ) → Passes b reload vcpus tasks room
+      → (j : ℕ) → j < taskRows tasks → taskBound tasks j ≤ 30999971
+  pub most-vcpu-bound :
+      (b : Board) (reload : ℕ) (vcpus tasks : List ℕ) (room : ℕ) → Passes b reload vcpus tasks room
+      → (i : ℕ) → i < vcpuRows vcpus → vcpuBound vcpus i ≤ 14999987
   pub task-bound-at-most : taskBound (shortest 31 ++ task 1000000 1000000 0x2 1) 31 ≡ 30999971
   -- But each round but the last goes to a later microsecond, so that no search takes more rounds than its deadline has microseconds, 1,000,000 at
   -- most; and that many are reached, by searches that end late.
   pub task-rounds-in-time :
-      (reload : ℕ) (vcpus tasks : List ℕ) → Plan reload vcpus tasks → (j : ℕ) → j < taskRows tasks → taskRounds reload vcpus tasks j ≤ deadline tasks j
+      (b : Board) (reload : ℕ) (vcpus tasks : List ℕ) (room : ℕ) → Passes b reload vcpus tasks room
+      → (j : ℕ) → j < taskRows tasks → taskRounds reload vcpus tasks j ≤ deadline tasks j
   pub vcpu-rounds-in-time : (vcpus : List ℕ) (i : ℕ) → vcpuRounds vcpus i ≤ vcpuPeriod vcpus i
   pub a-million-task-rounds : taskRounds 0 (vcpu 1000000 1000000) full 1 ≡ 1000000
   pub a-million-vcpu-rounds : vcpuRounds (vcpu 1 1 ++ vcpu 1000000 1) 1 ≡ 1000000
   -- A search ends by itself: with an allowance for m rounds more it takes no more.
   pub task-search-ends :
-      (p q reload : ℕ) (part : List ℕ) (i m : ℕ) → Budget p q → Tasks part → i < taskRows part
-      → roundsFrom (supply p q) (taskNeed reload part i) (deadline part i) (deadline part i + m) 1 ≡ roundsInPart p q reload part i
+      (b : Board) (reload : ℕ) (vcpus tasks : List ℕ) (room : ℕ) → Passes b reload vcpus tasks room
+      → (j m : ℕ) → j < taskRows tasks → let v = vcpuOf tasks j in let part = partOf tasks v in let i = j - partStart tasks v in
+      roundsFrom (supply (vcpuPeriod vcpus v) (budget vcpus v)) (taskNeed reload part i) (deadline part i) (deadline part i + m) 1
+      ≡ taskRounds reload vcpus tasks j
   pub vcpu-search-ends :
-      (vcpus : List ℕ) (i m : ℕ) → Vcpus vcpus → i < vcpuRows vcpus
+      (b : Board) (reload : ℕ) (vcpus tasks : List ℕ) (room : ℕ) → Passes b reload vcpus tasks room
+      → (i m : ℕ) → i < vcpuRows vcpus
       → roundsFrom (λ (t : ℕ). t) (vcpuNeed vcpus i) (vcpuPeriod vcpus i) (vcpuPeriod vcpus i + m) 1 ≡ vcpuRounds vcpus i

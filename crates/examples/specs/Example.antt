@@ -48,7 +48,7 @@ pub data Example : Type 0 where
   Reloads : List ℕ → ℕ → ℕ → ℕ → Example
   -- period and budget of a VCPU, reload, its task rows and one of them: its time by the pairwise rule
   Pairwise-time : ℕ → ℕ → ℕ → List ℕ → ℕ → Time → Example
-  -- board, reload, VCPU rows, task rows and the length of the list of times: the reply
+  -- board, reload, VCPU rows, task rows and the length of the shorter list, of times or of rounds: the reply
   Admission : Board → ℕ → List ℕ → List ℕ → ℕ → Reply (Unit {0}) → Example
 
 unfoldable pub sameReply : Reply ℕ → Reply ℕ → Bool

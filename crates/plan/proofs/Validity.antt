@@ -1,5 +1,5 @@
 -- A plan that passes 15 to 19, on a board that passes 2 to 7, is `Plan`: its lists are of their sizes and every row within its ranges. Each
--- task holds 1 to 16 colours of its grant, so that its cost is one of the sixteen. And by 16 the list of times has room.
+-- task holds 1 to 16 colours of its grant, so that its cost is one of the sixteen. And by 16 the lists have room.
 use Prim.Native.Nat.{ℕ, _+_, _-_, _/_, _%_, _^_, _<_, _≤_}
 use native.Mathlib.Nat.{pos-of-ne-zero, lt-of-le-of-lt}
 use native.Mathlib.Omega.{arith}

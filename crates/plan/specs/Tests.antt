@@ -18,7 +18,8 @@ zeroOrAbove limit x = eqb x 0 || ltb limit x
 abbrev pub badVcpuWords : ℕ → ℕ → Bool
 badVcpuWords reload words = ltb 10000 reload || (zeroOrAbove 64 words || not (eqb (words % 4) 0))
 
--- 16: the task words are none, over 640 or no multiple of 20, or the list of times, of so many words, is shorter than the rows of both kinds
+-- 16: the task words are none, over 640 or no multiple of 20, or the shorter of the lists of times and rounds, of so many words, is shorter than
+-- the rows of both kinds
 abbrev pub badTaskWords : ℕ → ℕ → ℕ → Bool
 badTaskWords rows words room = zeroOrAbove 640 words || (not (eqb (words % 20) 0) || ltb room (rows + words / 20))
 

@@ -26,7 +26,7 @@ const MOST_VCPU_WORDS: usize = 64;
 
 const MOST_TASK_WORDS: usize = 640;
 
-// Refusals 15 to 20 of a plan with a list of times of so many words.
+// Refusals 15 to 20 of a plan, where the shorter of the lists of times and of rounds has so many words.
 pub fn check_plan(board: Board, reload: u32, vcpus: &[u32], tasks: &[u32], room: usize) -> Checked
     ensures { λ r. ⌜ paperChecked r ≡ planReply board reload (now (vcpus .entry)) (now (tasks .entry)) room ⌝ }
 {
@@ -47,7 +47,7 @@ fn bad_vcpu_words(reload: u32, words: usize) -> bool
     (MOST_RELOAD < reload) | (size | (words % VCPU_WORDS != 0))
 }
 
-// 16: the number of task words, or room for fewer times than VCPU rows and task rows.
+// 16: the number of task words, or room for fewer words than VCPU rows and task rows.
 fn bad_task_words(rows: usize, words: usize, room: usize) -> bool
     requires { ⌜ rows ≤ 16 ⌝ }
     ensures { λ r. ⌜ r ≡ badTaskWords rows words room ⌝ }

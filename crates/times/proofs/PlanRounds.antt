@@ -5,18 +5,17 @@ use native.Mathlib.Nat.{le-refl, le-trans, mul-le-mul, suc-mul}
 use native.Mathlib.Omega.{arith}
 use mathlib.Core.Bool.{Bool, true, false, true≢false}
 use mathlib.Core.List.{List}
-use mathlib.Core.Path.{_≡_, refl, sym, ap, _∙_}
+use mathlib.Core.Path.{_≡_, refl, sym}
 use lib.Dec.{eqb}
 use borrow.Author.Tests.{eq-eqb}
-use Rattle.lists.specs.Choice.{if_then_else_}
 use Rattle.lists.proofs.Split.{cases}
-use Rattle.supply.specs.Supply.{supply, firstSupply, Budget}
+use Rattle.supply.specs.Supply.{supply, Budget}
 use Rattle.rows.specs.RowWords.{core, vcpuPeriod, budget, vcpuOf, taskPeriod, deadline, cost, vcpuRows, taskRows}
 use Rattle.rows.specs.Reload.{charge}
 use Rattle.rows.specs.Part.{partStart, partEnd, partOf}
 use Rattle.rows.specs.Valid.{Tasks, Vcpus, Ascending, Plan}
 use Rattle.rows.proofs.Parts.{none-before, part-word, part-own, row-in-part}
-use Rattle.times.specs.Times.{arrivals, need, taskNeed, vcpuCharge, vcpuNeed}
+use Rattle.times.specs.Times.{arrivals, taskNeed, vcpuCharge, vcpuNeed}
 use Rattle.times.specs.Rounds.{roundsFrom, rounds, roundsInPart, taskRounds, vcpuRounds, roundsBound, taskBound, vcpuBound}
 use Rattle.times.proofs.Needs.{arrivals-mono, arrivals-least, arrivals-fall, arrivals-le}
 use Rattle.times.proofs.Bounds.{task-search, vcpu-search}
@@ -140,15 +139,18 @@ long-period-adds-nothing counts period due n low long =
     cases (counts n) (λ e. rw e (omega (arith, one))) (λ e. rw e (omega arith))
 
 -- the search of a row ends by itself
-pub task-search-ends : (p q reload : ℕ) (part : List ℕ) (i m : ℕ) → Budget p q → Tasks part → i < taskRows part
-    → roundsFrom (supply p q) (taskNeed reload part i) (deadline part i) (deadline part i + m) 1 ≡ roundsInPart p q reload part i
-unfolding roundsInPart
-task-search-ends p q reload part i m b rows here =
-    ends-by-itself (task-search p q reload part i b rows here) (deadline part i) m (rows .row i here .due-low)
+pub task-search-ends : (reload : ℕ) (vcpus tasks : List ℕ) → Plan reload vcpus tasks → (j m : ℕ) → j < taskRows tasks
+    → let v = vcpuOf tasks j in let part = partOf tasks v in let i = j - partStart tasks v in
+    roundsFrom (supply (vcpuPeriod vcpus v) (budget vcpus v)) (taskNeed reload part i) (deadline part i) (deadline part i + m) 1
+    ≡ taskRounds reload vcpus tasks j
+unfolding taskRounds roundsInPart
+task-search-ends reload vcpus tasks plan j m h =
+    let f = fit reload vcpus tasks plan j h in
+    ends-by-itself (task-search _ _ reload _ _ (f .budgeted) (f .rows) (f .within)) _ m (f .rows .row _ (f .within) .due-low)
 
-pub vcpu-search-ends : (vcpus : List ℕ) (i m : ℕ) → Vcpus vcpus → i < vcpuRows vcpus
+pub vcpu-search-ends : (vcpus : List ℕ) → Vcpus vcpus → (i m : ℕ) → i < vcpuRows vcpus
     → roundsFrom (λ (t : ℕ). t) (vcpuNeed vcpus i) (vcpuPeriod vcpus i) (vcpuPeriod vcpus i + m) 1 ≡ vcpuRounds vcpus i
 unfolding vcpuRounds
-vcpu-search-ends vcpus i m rows here =
+vcpu-search-ends vcpus rows i m here =
     let r = rows .row i here in
     ends-by-itself (vcpu-search vcpus i rows here) (vcpuPeriod vcpus i) m (le-trans (r .budget-low) (r .budget-high))

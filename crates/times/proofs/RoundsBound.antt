@@ -1,11 +1,10 @@
 -- The bound on rounds: document 02, No. 9. Each round but the first two starts where more arrivals of earlier rows are seen than at the round
 -- before, and none starts past the deadline, so that they are at most 2 and the arrivals between 1 and the deadline.
-use Prim.Native.Nat.{ℕ, zero, suc, _+_, _-_, _*_, _/_, _<_, _≤_}
+use Prim.Native.Nat.{ℕ, zero, suc, _+_, _-_, _<_, _≤_}
 use native.Mathlib.Nat.{le-refl, lt-irrefl, le-trans, add-le-add, div-self, mul-zero}
 use native.Mathlib.Omega.{arith}
-use mathlib.Core.Bool.{Bool, true, false}
-use mathlib.Core.List.{List}
-use mathlib.Core.Path.{_≡_, refl, sym, ap, _∙_}
+use mathlib.Core.Bool.{Bool, false}
+use mathlib.Core.Path.{_≡_, refl, ap}
 use Rattle.lists.specs.Choice.{if_then_else_}
 use Rattle.lists.proofs.Split.{cases, below-or-not}
 use Rattle.times.specs.Times.{arrivals, need}
