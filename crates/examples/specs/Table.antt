@@ -105,7 +105,7 @@ examples =
     -- an earlier row that takes 9 of every 10 microseconds: the bound is reached
     ∷ Vcpu-rounds (vcpu 10 9 ++ vcpu 100 10) 1 11 11
     ∷ Task-rounds 0 (vcpu 100 100) (task 10 10 0x1 9 ++ task 100 100 0x2 10) 1 11 11
-    -- 10 of every 10: late, after as many rounds as the deadline has microseconds
+    -- one that takes every microsecond: late, after as many rounds as the deadline has microseconds
     ∷ Task-rounds 0 (vcpu 100 100) (task 1 1 0x1 1 ++ task 100 20 0x2 1) 1 20 21
     -- of the recorder's accident, beyond document 01: each of the three tasks that are refused together above is admitted alone
     ∷ Admission planned 0 whole-core (task 10000 10000 0x1 4000) 2 (Answers tt)
