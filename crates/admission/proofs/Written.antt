@@ -3,18 +3,30 @@ use Prim.Native.Nat.{ℕ, _+_, _≤_}
 use native.Mathlib.Nat.{zero-add}
 use native.Mathlib.Omega.{arith}
 use mathlib.Core.List.{List, _++_, map}
-use mathlib.Core.Path.{_≡_, sym, _∙_}
+use mathlib.Core.Path.{_≡_, sym, ap, _∙_}
 use lib.ListN.{length, take, length-append}
 use Rattle.lists.specs.Range.{upto}
 use Rattle.lists.proofs.Found.{sought-le}
 use Rattle.lists.proofs.Written.{length-table}
 use Rattle.refusal.specs.Reply.{Reply, Refuses}
+use Rattle.board.specs.declared.Board.{Board}
 use Rattle.rows.specs.RowWords.{vcpuRows, taskRows}
 use Rattle.times.specs.First.{Time}
 use Rattle.times.specs.Times.{taskTime, vcpuTime}
 use Rattle.times.specs.Rounds.{taskRounds, vcpuRounds}
-use Rattle.admission.specs.Admission.{isLate, microseconds, vcpuTimes, taskTimes, allTimes, allRounds, listAfter}
+use Rattle.admission.specs.Admission.{isLate, microseconds, room, admissionReply, vcpuTimes, taskTimes, allTimes, allRounds, listAfter, timesAfter, roundsAfter}
 use Rattle.admission.specs.Timed.{Kept, Timed}
+
+-- by a reply of admission, with the room of the shorter list: both lists afterwards
+module _ (b : Board) (reload : ℕ) (vcpus tasks times rounds : List ℕ) (reply : Reply (Unit {0}))
+    (e : admissionReply b reload vcpus tasks (room times rounds) ≡ reply) where
+  pub times-by : listAfter reply (allTimes reload vcpus tasks) times ≡ timesAfter b reload vcpus tasks times rounds
+  unfolding timesAfter
+  times-by = rw (← e) (ap (λ (n : ℕ). listAfter (admissionReply b reload vcpus tasks n) (allTimes reload vcpus tasks) times) (omega arith))
+
+  pub rounds-by : listAfter reply (allRounds reload vcpus tasks) rounds ≡ roundsAfter b reload vcpus tasks times rounds
+  unfolding roundsAfter
+  rounds-by = rw (← e) (ap (λ (n : ℕ). listAfter (admissionReply b reload vcpus tasks n) (allRounds reload vcpus tasks) rounds) (omega arith))
 
 -- a refusal leaves both lists as they were
 pub refused : (reply : Reply (Unit {0})) (n r : ℕ) (times lent rounds lent-rounds : List ℕ) → reply ≡ Refuses n r

@@ -97,12 +97,14 @@ round-claims =
     record {
       task-rounds-bounded = λ b reload vcpus tasks room p. round.task-rounds-bounded reload vcpus tasks (reached.plan-of b reload vcpus tasks room p);
       vcpu-rounds-bounded = λ b reload vcpus tasks room p. round.vcpu-rounds-bounded vcpus (reached.plan-of b reload vcpus tasks room p .vcpu-rows);
+      plans-pass = reached.plans-pass;
       bound-is-reached = (reached.crowded-rounds, reached.crowded-bound);
       bound-grows = round.bound-grows;
       long-period-adds-nothing = round.long-period-adds-nothing;
       most-task-bound = λ b reload vcpus tasks room p. round.most-task-bound tasks (reached.plan-of b reload vcpus tasks room p .task-rows);
       most-vcpu-bound = λ b reload vcpus tasks room p. round.most-vcpu-bound vcpus (reached.plan-of b reload vcpus tasks room p .vcpu-rows);
       task-bound-at-most = reached.task-bound-at-most;
+      vcpu-bound-at-most = reached.vcpu-bound-at-most;
       task-rounds-in-time = λ b reload vcpus tasks room p. round.task-rounds-in-time reload vcpus tasks (reached.plan-of b reload vcpus tasks room p);
       vcpu-rounds-in-time = round.vcpu-rounds-in-time;
       a-million-task-rounds = reached.a-million-task-rounds;

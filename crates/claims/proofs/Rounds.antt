@@ -6,33 +6,50 @@ use mathlib.Core.List.{List, _++_}
 use mathlib.Core.Path.{_≡_, refl, ap, _∙_}
 use lib.Count.{ones, onesIn}
 use Rattle.lists.specs.Range.{from, keep, lowestFrom}
+use Rattle.refusal.specs.Reply.{each, unless}
+use Rattle.colours.specs.Sets.{isColourSet}
+use Rattle.colours.specs.Cache.{isColourCount}
 use Rattle.supply.specs.Supply.{supply, firstSupply, Budget}
 use Rattle.board.specs.declared.Board.{Board}
+use Rattle.board.specs.Tests.{domainTests, boardTests, boardReply}
 use Rattle.rows.specs.RowWords.{cost}
 use Rattle.rows.specs.Reload.{heldFrom, reloadedSet, reloaded, charge}
 use Rattle.rows.specs.Part.{partStart, rowsFrom, partOf}
 use Rattle.rows.specs.Valid.{Plan}
+use Rattle.plan.specs.Tests.{rowTests, planTests, planReply}
 use Rattle.plan.proofs.Validity.{valid}
 use Rattle.times.specs.Times.{arrivals, need, taskNeed, vcpuCharge, vcpuNeed}
-use Rattle.times.specs.Rounds.{rounds, roundsInPart, taskRounds, vcpuRounds, roundsBound, taskBound}
+use Rattle.times.specs.Rounds.{rounds, roundsInPart, taskRounds, vcpuRounds, roundsBound, taskBound, vcpuBound}
 use Rattle.times.proofs.Search.{Searchable}
 use Rattle.times.proofs.Bounds.{task-searchable, vcpu-searchable}
 use Rattle.times.proofs.Counted.{as-many-as-microseconds, climb, goes-on}
-use Rattle.examples.specs.Table.{vcpu, task}
-use Rattle.claims.specs.Rounds.{crowded, full, shortest, Passes}
+use Rattle.times.proofs.Fit.{rounds-over-part}
+use Rattle.examples.specs.Table.{planned, task}
+use Rattle.claims.specs.Rounds.{whole, crowded, tasks-behind, vcpus-behind, Passes}
 
 -- what is left of a plan that passes
 pub plan-of : (b : Board) (reload : ℕ) (vcpus tasks : List ℕ) (room : ℕ) → Passes b reload vcpus tasks room → Plan reload vcpus tasks
 plan-of b reload vcpus tasks room p = valid b reload vcpus tasks room (p .1) (p .0)
 
-pub task-bound-at-most : taskBound (shortest 31 ++ task 1000000 1000000 0x2 1) 31 ≡ 30999971
+-- by computation
+pub plans-pass :
+    Passes planned 0 whole crowded 3 × Passes planned 0 whole (tasks-behind 1) 3 × Passes planned 0 whole (tasks-behind 31) 33
+    × Passes planned 0 (vcpus-behind 1) (task 1 1 0x1 1) 3 × Passes planned 0 (vcpus-behind 15) (task 1 1 0x1 1) 17
+unfolding isColourCount isColourSet from each unless domainTests boardTests boardReply rowTests planTests planReply
+plans-pass = ((refl, refl), (refl, refl), (refl, refl), (refl, refl), (refl, refl))
+
+pub task-bound-at-most : taskBound (tasks-behind 31) 31 ≡ 30999971
 unfolding taskBound roundsBound arrivals
 task-bound-at-most = refl
 
+pub vcpu-bound-at-most : vcpuBound (vcpus-behind 15) 15 ≡ 14999987
+unfolding vcpuBound roundsBound arrivals
+vcpu-bound-at-most = refl
+
 -- a whole core supplies so much in so many microseconds
-whole : (p x : ℕ) → 1 ≤ x → firstSupply p p x ≡ x
+first-of-whole : (p x : ℕ) → 1 ≤ x → firstSupply p p x ≡ x
 unfolding firstSupply
-whole p x low = omega (arith, div-add-mod' (x - 1) p)
+first-of-whole p x low = omega (arith, div-add-mod' (x - 1) p)
 
 -- an arrival in each microsecond
 each-one : (t : ℕ) → arrivals t 1 ≡ t
@@ -46,17 +63,18 @@ million = record { some = omega arith; within = omega arith }
 one-later : (t : ℕ) → 1 + arrivals t 1 * 1 ≡ t + 1
 one-later t = omega (arith, each-one t)
 
-pub a-million-vcpu-rounds : vcpuRounds (vcpu 1 1 ++ vcpu 1000000 1) 1 ≡ 1000000
+pub a-million-vcpu-rounds : vcpuRounds (vcpus-behind 1) 1 ≡ 1000000
 unfolding vcpuRounds vcpuNeed need vcpuCharge
 a-million-vcpu-rounds =
-    as-many-as-microseconds (vcpu-searchable (vcpu 1 1 ++ vcpu 1000000 1) 1 (le-refl 1)) 1000000 (λ t h. one-later t)
+    as-many-as-microseconds (vcpu-searchable (vcpus-behind 1) 1 (le-refl 1)) 1000000 (λ t h. one-later t)
 
-pub a-million-task-rounds : taskRounds 0 (vcpu 1000000 1000000) full 1 ≡ 1000000
+pub a-million-task-rounds : taskRounds 0 whole (tasks-behind 1) 1 ≡ 1000000
 unfolding
-    taskRounds roundsInPart partStart partOf rowsFrom lowestFrom keep from
+    roundsInPart partStart partOf rowsFrom lowestFrom keep from
     taskNeed need cost charge reloaded reloadedSet heldFrom ones onesIn
 a-million-task-rounds =
-    as-many-as-microseconds (task-searchable 1000000 1000000 0 full 1 million (le-refl 1)) 1000000 (λ t h. whole 1000000 (1 + arrivals t 1 * 1) (omega arith) ∙ one-later t)
+    rounds-over-part 0 whole (tasks-behind 1) 1
+    ∙ as-many-as-microseconds (task-searchable 1000000 1000000 0 (tasks-behind 1) 1 million (le-refl 1)) 1000000 (λ t h. first-of-whole 1000000 (1 + arrivals t 1 * 1) (omega arith) ∙ one-later t)
 
 -- the search of the crowded plan: where its rounds start, from the second on
 abbrev place : ℕ → ℕ
@@ -81,17 +99,19 @@ crowded-search = task-searchable 1000000 1000000 0 crowded 1 million (omega arit
 
 crowded-first : (t : ℕ) → firstSupply 1000000 1000000 (taskNeed 0 crowded 1 t) ≡ 1000 + arrivals t 1000 * 999
 unfolding taskNeed need cost charge reloaded reloadedSet heldFrom ones onesIn
-crowded-first t = whole 1000000 (1000 + arrivals t 1000 * 999) (omega arith)
+crowded-first t = first-of-whole 1000000 (1000 + arrivals t 1000 * 999) (omega arith)
 
-pub crowded-rounds : taskRounds 0 (vcpu 1000000 1000000) crowded 1 ≡ 1001
-unfolding taskRounds roundsInPart rounds partStart partOf rowsFrom lowestFrom keep from
+pub crowded-rounds : taskRounds 0 whole crowded 1 ≡ 1001
+unfolding roundsInPart rounds partStart partOf rowsFrom lowestFrom keep from
 crowded-rounds =
     let second : firstSupply 1000000 1000000 (taskNeed 0 crowded 1 1) ≡ 1999 = crowded-first 1 ∙ from-one in
     let rest = climb crowded-search 1000000 place 999
     (λ k h. (crowded-first (place k) ∙ rw (arrived k h) (omega arith), omega arith))
     (λ k h. omega arith)
     (crowded-first (place 999) ∙ stays) 999 999999 0 refl (omega arith) in
-    goes-on crowded-search 1000000 999999 1 (omega (arith, second)) (omega (arith, second)) ∙ rw second (ap suc rest)
+    rounds-over-part 0 whole crowded 1
+    ∙ goes-on crowded-search 1000000 999999 1 (omega (arith, second)) (omega (arith, second))
+    ∙ rw second (ap suc rest)
 
 pub crowded-bound : taskBound crowded 1 ≡ 1001
 unfolding taskBound roundsBound arrivals

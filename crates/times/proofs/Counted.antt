@@ -1,16 +1,31 @@
 -- The rounds of a search, over any need and supply with a first time for each amount: what one round does, that the search ends by itself, and
--- what a loop by rounds knows when it comes to t, of the time and of the rounds.
+-- what a loop by rounds knows when it comes to t, of the time and of the rounds. The laws of one round go by its cases and not by the words of
+-- the definition, so that another wording of the same round meets them too; all else goes by these laws.
 use Prim.Native.Nat.{ℕ, zero, suc, _+_, _-_, _<_, _≤_}
 use native.Mathlib.Nat.{le-refl, lt-irrefl, le-trans, zero-add, le-of-suc-le-suc, not-suc-le-zero}
 use native.Mathlib.Omega.{arith}
-use mathlib.Core.Bool.{false, true≢false, _||_}
+use mathlib.Core.Bool.{false, true≢false, or-true, or-false}
 use mathlib.Core.Path.{_≡_, refl, sym, ap, _∙_}
 use lib.Dec.{eqb, leb, ltb}
-use borrow.Author.Tests.{le-leb, lt-leb, lt-ltb, le-ltb, eq-eqb, ne-eqb}
+use borrow.Author.Tests.{le-leb, lt-leb, lt-ltb, le-ltb, eq-eqb, ne-eqb, eqb-true, eqb-false}
 use Rattle.lists.proofs.Split.{cases, below-or-not}
 use Rattle.times.specs.First.{Time, At, Late, firstTime}
 use Rattle.times.specs.Rounds.{microsecondOr, covering, roundsFrom, rounds}
 use Rattle.times.proofs.Search.{Searchable, Before, first-at, first-none, before-one, next, found, missed, exceeded}
+
+-- one round from t, by the microsecond that it takes: t itself, one past the deadline, or another
+module _ (sup want : ℕ → ℕ) (due n t next : ℕ) (takes : covering sup due (want t) ≡ next) where
+  by-equal : next ≡ t → roundsFrom sup want due (suc n) t ≡ 1
+  unfolding roundsFrom
+  by-equal e = simp (takes, eq-eqb next t e, eq-eqb t next (sym e), or-true) (omega arith)
+
+  by-past : due < next → roundsFrom sup want due (suc n) t ≡ 1
+  unfolding roundsFrom
+  by-past l = simp (takes, lt-ltb due next l, or-true) (omega arith)
+
+  by-later : (next ≡ t → ⊥) → next ≤ due → roundsFrom sup want due (suc n) t ≡ suc (roundsFrom sup want due n next)
+  unfolding roundsFrom
+  by-later d l = simp (takes, ne-eqb next t d, ne-eqb t next (λ e. d (sym e)), le-ltb due next l, or-false) (omega arith)
 
 -- no more rounds than are allowed
 pub allowed : (sup want : ℕ → ℕ) (due n t : ℕ) → roundsFrom sup want due n t ≤ n
@@ -18,7 +33,12 @@ unfolding roundsFrom
 allowed sup want due zero t = le-refl 0
 allowed sup want due (suc n) t =
     let next : ℕ = covering sup due (want t) in
-    cases (eqb next t || ltb due next) (λ e. rw e (omega arith)) (λ e. rw e (omega (arith, allowed sup want due n next)))
+    cases (eqb next t)
+    (λ e. omega (arith, by-equal sup want due n t next refl (eqb-true next t e)))
+    (λ e.
+    below-or-not due next
+    (λ l. omega (arith, by-past sup want due n t next refl l))
+    (λ l. omega (arith, by-later sup want due n t next refl (eqb-false next t e) l, allowed sup want due n next)))
 
 module _ {sup want first : ℕ → ℕ} (r : Searchable sup want first) (due : ℕ) where
   -- no microsecond before the first has the supply
@@ -38,19 +58,13 @@ module _ {sup want first : ℕ → ℕ} (r : Searchable sup want first) (due : �
 
   -- a round at t: it ends the search at t, or past the deadline, or goes on
   pub ends : (n t : ℕ) → t ≤ due → first (want t) ≡ t → roundsFrom sup want due (suc n) t ≡ 1
-  unfolding roundsFrom
-  ends n t h e = rw (covering-first (want t) (r .some t) (omega arith), eq-eqb (first (want t)) t e) refl
+  ends n t h e = by-equal sup want due n t (first (want t)) (covering-first (want t) (r .some t) (omega arith)) e
 
   pub exceeds : (n t : ℕ) → due < first (want t) → roundsFrom sup want due (suc n) t ≡ 1
-  unfolding roundsFrom
-  exceeds n t h =
-      rw (covering-past (want t) (r .some t) h, lt-ltb due (due + 1) (omega arith))
-      (cases (eqb (due + 1) t) (λ e. rw e refl) (λ e. rw e refl))
+  exceeds n t h = by-past sup want due n t (due + 1) (covering-past (want t) (r .some t) h) (omega arith)
 
   pub goes-on : (n t : ℕ) → t < first (want t) → first (want t) ≤ due → roundsFrom sup want due (suc n) t ≡ suc (roundsFrom sup want due n (first (want t)))
-  unfolding roundsFrom
-  goes-on n t l h =
-      rw (covering-first (want t) (r .some t) h, ne-eqb (first (want t)) t (λ e. lt-irrefl t (omega arith)), le-ltb due (first (want t)) h) refl
+  goes-on n t l h = by-later sup want due n t (first (want t)) (covering-first (want t) (r .some t) h) (λ e. lt-irrefl t (omega arith)) h
 
   -- where no time before t will do, a round at t takes none before it
   pub forward : (t : ℕ) → Before sup want t → t ≤ first (want t)

@@ -1,8 +1,8 @@
--- A row of a valid plan is fit for the search: its VCPU's budget, and the rows of its part.
+-- A row of a valid plan is fit for the search: its VCPU's budget, and the rows of its part, over which its time and its rounds are.
 use Prim.Native.Nat.{ℕ, _-_, _<_, _≤_}
 use native.Mathlib.Omega.{arith}
 use mathlib.Core.List.{List}
-use mathlib.Core.Path.{_≡_, refl}
+use mathlib.Core.Path.{_≡_, refl, sym, ap}
 use Rattle.supply.specs.Supply.{Budget}
 use Rattle.rows.specs.RowWords.{vcpuPeriod, budget, vcpuOf, taskRows}
 use Rattle.rows.specs.Part.{partStart, partOf}
@@ -31,6 +31,14 @@ fit reload vcpus tasks plan j h =
       within = omega (arith, inside .0, inside .1, part-rows tasks v);
     }
 
+-- a row's rounds are those in the part of its VCPU
+pub rounds-over-part : (reload : ℕ) (vcpus tasks : List ℕ) (j : ℕ) → let v = vcpuOf tasks j in
+    taskRounds reload vcpus tasks j ≡ roundsInPart (vcpuPeriod vcpus v) (budget vcpus v) reload (partOf tasks v) (j - partStart tasks v)
+unfolding taskRounds
+rounds-over-part reload vcpus tasks j =
+    let v : ℕ = vcpuOf tasks j in
+    ap (λ (i : ℕ). roundsInPart (vcpuPeriod vcpus v) (budget vcpus v) reload (partOf tasks v) i) (omega arith)
+
 -- the same of numbers that are those of the row: its VCPU's period and budget, its part and where that starts
 module _ (vcpus tasks own : List ℕ) (j v p q start : ℕ)
     (hv : v ≡ vcpuOf tasks j) (hp : p ≡ vcpuPeriod vcpus v) (hq : q ≡ budget vcpus v)
@@ -43,5 +51,4 @@ module _ (vcpus tasks own : List ℕ) (j v p q start : ℕ)
   time-read reload = rw (hp, hq, hv, ho, hs) refl
 
   pub rounds-read : (reload : ℕ) → roundsInPart p q reload own (j - start) ≡ taskRounds reload vcpus tasks j
-  unfolding taskRounds
-  rounds-read reload = rw (hp, hq, hv, ho, hs) refl
+  rounds-read reload = rw (hp, hq, hv, ho, hs) (sym (rounds-over-part reload vcpus tasks j))

@@ -5,7 +5,7 @@ use native.Mathlib.Nat.{le-refl, le-trans, mul-le-mul, suc-mul}
 use native.Mathlib.Omega.{arith}
 use mathlib.Core.Bool.{Bool, true, false, true≢false}
 use mathlib.Core.List.{List}
-use mathlib.Core.Path.{_≡_, refl, sym}
+use mathlib.Core.Path.{_≡_, refl, sym, _∙_}
 use lib.Dec.{eqb}
 use borrow.Author.Tests.{eq-eqb}
 use Rattle.lists.proofs.Split.{cases}
@@ -21,7 +21,7 @@ use Rattle.times.proofs.Needs.{arrivals-mono, arrivals-least, arrivals-
 use Rattle.times.proofs.Bounds.{task-search, vcpu-search}
 use Rattle.times.proofs.Counted.{allowed, ends-by-itself}
 use Rattle.times.proofs.RoundsBound.{rounds-bounded}
-use Rattle.times.proofs.Fit.{fit}
+use Rattle.times.proofs.Fit.{fit, rounds-over-part}
 
 -- rows that do not count add nothing
 none-count : (counts : ℕ → Bool) (period : ℕ → ℕ) (due n : ℕ) → ((k : ℕ) → k < n → counts k ≡ false) → roundsBound counts period due n ≡ 2
@@ -61,7 +61,7 @@ due-in-part tasks up j h =
 
 pub task-rounds-bounded : (reload : ℕ) (vcpus tasks : List ℕ) → Plan reload vcpus tasks → (j : ℕ) → j < taskRows tasks
     → taskRounds reload vcpus tasks j ≤ taskBound tasks j
-unfolding taskRounds taskBound
+unfolding taskBound
 task-rounds-bounded reload vcpus tasks plan j h =
     let v : ℕ = vcpuOf tasks j in
     let start : ℕ = partStart tasks v in
@@ -71,7 +71,8 @@ task-rounds-bounded reload vcpus tasks plan j h =
     let same = bound-in-part (λ (k : ℕ). eqb (vcpuOf tasks k) v) (taskPeriod tasks) (taskPeriod (partOf tasks v)) (deadline tasks j) start (j - start)
     (none-before tasks v)
     (λ k l. let own : k < partEnd tasks v - start = omega (arith, l, inside .0, inside .1) in (eq-eqb _ v (part-own tasks v k own), part-word tasks v k 1 own (omega arith))) in
-    rw (due-in-part tasks (plan .ascending) j h, same, at) at (part-rounds-bounded _ _ reload (partOf tasks v) (j - start) (f .budgeted) (f .rows) (f .within))
+    rw (rounds-over-part reload vcpus tasks j)
+    (rw (due-in-part tasks (plan .ascending) j h, same, at) at (part-rounds-bounded _ _ reload (partOf tasks v) (j - start) (f .budgeted) (f .rows) (f .within)))
 
 pub vcpu-rounds-bounded : (vcpus : List ℕ) → Vcpus vcpus → (i : ℕ) → i < vcpuRows vcpus → vcpuRounds vcpus i ≤ vcpuBound vcpus i
 unfolding vcpuRounds vcpuBound vcpuNeed vcpuCharge
@@ -111,8 +112,9 @@ most-vcpu-bound vcpus rows i h =
 -- no search takes more rounds than its deadline has microseconds
 pub task-rounds-in-time : (reload : ℕ) (vcpus tasks : List ℕ) → Plan reload vcpus tasks → (j : ℕ) → j < taskRows tasks
     → taskRounds reload vcpus tasks j ≤ deadline tasks j
-unfolding taskRounds roundsInPart rounds
-task-rounds-in-time reload vcpus tasks plan j h = rw (← (due-in-part tasks (plan .ascending) j h)) (allowed _ _ _ _ 1)
+unfolding roundsInPart rounds
+task-rounds-in-time reload vcpus tasks plan j h =
+    rw (rounds-over-part reload vcpus tasks j, ← (due-in-part tasks (plan .ascending) j h)) (allowed _ _ _ _ 1)
 
 pub vcpu-rounds-in-time : (vcpus : List ℕ) (i : ℕ) → vcpuRounds vcpus i ≤ vcpuPeriod vcpus i
 unfolding vcpuRounds rounds
@@ -143,10 +145,11 @@ pub task-search-ends : (reload : ℕ) (vcpus tasks : List ℕ) → Plan reload v
     → let v = vcpuOf tasks j in let part = partOf tasks v in let i = j - partStart tasks v in
     roundsFrom (supply (vcpuPeriod vcpus v) (budget vcpus v)) (taskNeed reload part i) (deadline part i) (deadline part i + m) 1
     ≡ taskRounds reload vcpus tasks j
-unfolding taskRounds roundsInPart
+unfolding roundsInPart
 task-search-ends reload vcpus tasks plan j m h =
     let f = fit reload vcpus tasks plan j h in
     ends-by-itself (task-search _ _ reload _ _ (f .budgeted) (f .rows) (f .within)) _ m (f .rows .row _ (f .within) .due-low)
+    ∙ sym (rounds-over-part reload vcpus tasks j)
 
 pub vcpu-search-ends : (vcpus : List ℕ) → Vcpus vcpus → (i m : ℕ) → i < vcpuRows vcpus
     → roundsFrom (λ (t : ℕ). t) (vcpuNeed vcpus i) (vcpuPeriod vcpus i) (vcpuPeriod vcpus i + m) 1 ≡ vcpuRounds vcpus i

@@ -8,9 +8,9 @@ use Rattle.board.specs.Paper.{paperChecked}
 use Rattle.board.specs.Tests.{boardReply}
 use Rattle.plan.specs.Tests.{planReply}
 use Rattle.plan.proofs.Validity.{roomy, valid}
-use Rattle.admission.specs.Admission.{room, timesAfter, roundsAfter}
+use Rattle.admission.specs.Admission.{room}
 use Rattle.admission.proofs.Admits.{by-board, by-plan, by-times}
-use Rattle.admission.proofs.Written.{refused}
+use Rattle.admission.proofs.Written.{times-by, rounds-by}
 use Rattle.admission.proofs.admit_plan.Statement.{statement}
 use Rattle.admission.proofs.admit_plan.Tie as tie
 
@@ -47,10 +47,10 @@ enum-known-refusal : tie.Need-enum-known-refusal
 enum-known-refusal c = search needs
 
 returns : tie.Need-returns
-unfolding timesAfter roundsAfter
 returns c =
     let d = c .before .before .before in
-    refused _ _ _ _ _ _ _ (by-board _ _ _ _ _ _ _ (sym (d .check-board .ensures) ∙ ap paperChecked (c .before .refusal .given .1)))
+    let no = by-board _ _ _ _ _ _ _ (sym (d .check-board .ensures) ∙ ap paperChecked (c .before .refusal .given .1)) in
+    (sym no, (times-by _ _ _ _ _ _ _ no, rounds-by _ _ _ _ _ _ _ no))
 
 enum-told : tie.Need-enum-told
 enum-told c = search needs
@@ -65,10 +65,10 @@ enum-known-refusal-2 : tie.Need-enum-known-refusal-2
 enum-known-refusal-2 c = search needs
 
 returns-2 : tie.Need-returns-2
-unfolding timesAfter roundsAfter
 returns-2 c =
     let d = c .before .before .before in
-    refused _ _ _ _ _ _ _ (by-plan _ _ _ _ _ (passes-7 (asked d)) _ _ (sym (checked d) ∙ ap paperChecked (c .before .refusal2 .given .1)))
+    let no = by-plan _ _ _ _ _ (passes-7 (asked d)) _ _ (sym (checked d) ∙ ap paperChecked (c .before .refusal2 .given .1)) in
+    (sym no, (times-by _ _ _ _ _ _ _ no, rounds-by _ _ _ _ _ _ _ no))
 
 enum-told-2 : tie.Need-enum-told-2
 enum-told-2 c = search needs
@@ -85,13 +85,12 @@ same-length-2 : tie.Need-same-length-2
 same-length-2 c = search needs
 
 returns-3 : tie.Need-returns-3
-unfolding timesAfter roundsAfter
 returns-3 c =
     let d = c .before .before .before .before in
     let passed = d .before .before .before in
     let left = by-times _ _ _ _ _ (passes-7 (told passed)) (passes-20 passed) in
     let done = d .admit-rows .ensures in
-    (done .0 ∙ sym left, (done .1 .0 ∙ rw left, done .1 .1 ∙ rw left))
+    (done .0 ∙ sym left, (done .1 .0 ∙ times-by _ _ _ _ _ _ _ left, done .1 .1 ∙ rounds-by _ _ _ _ _ _ _ left))
 
 pub admit-plan-spec : {M : Type 1} → statement M
 admit-plan-spec =
