@@ -6,12 +6,12 @@ use mathlib.Core.List.{List}
 use mathlib.Core.Path.{_≡_, refl, sym, ap₂, _∙_}
 use lib.ListN.{length, getD, set}
 use lib.Seq.{getD-set-same, getD-set-other}
-use borrow.Author.Tests.{eq-eqb, ne-eqb}
 use Rattle.lists.proofs.Split.{below-or-not}
 use Rattle.rows.specs.RowWords.{core, vcpuPeriod, budget}
 use Rattle.rows.specs.Valid.{VcpuRow}
 use Rattle.times.specs.Times.{arrivals, need, vcpuCharge, vcpuNeed}
 use Rattle.times.proofs.Needs.{need-next, need-same}
+use Rattle.times.proofs.Bounds.{same-core, other-core}
 use Rattle.admission.specs.Earlier.{OnCore}
 
 module _ (vcpus : List ℕ) (i : ℕ) where
@@ -19,14 +19,11 @@ module _ (vcpus : List ℕ) (i : ℕ) where
   abbrev upto : ℕ → ℕ → ℕ
   upto n t = need (budget vcpus i) (vcpuPeriod vcpus) (vcpuCharge vcpus i) n t
 
-  same-core : (j t : ℕ) → core vcpus j ≡ core vcpus i → upto (j + 1) t ≡ upto j t + arrivals t (vcpuPeriod vcpus j) * budget vcpus j
-  unfolding vcpuCharge
-  same-core j t e = rw (need-next (budget vcpus i) (vcpuPeriod vcpus) (vcpuCharge vcpus i) j t, eq-eqb (core vcpus j) (core vcpus i) e)
+  added : (j t : ℕ) → core vcpus j ≡ core vcpus i → upto (j + 1) t ≡ upto j t + arrivals t (vcpuPeriod vcpus j) * budget vcpus j
+  added j t e = rw (need-next (budget vcpus i) (vcpuPeriod vcpus) (vcpuCharge vcpus i) j t, same-core vcpus i j e)
 
-  other-core : (j t : ℕ) → (core vcpus j ≡ core vcpus i → ⊥) → upto (j + 1) t ≡ upto j t
-  unfolding vcpuCharge
-  other-core j t e =
-      need-next (budget vcpus i) (vcpuPeriod vcpus) (vcpuCharge vcpus i) j t ∙ rw (ne-eqb (core vcpus j) (core vcpus i) e) (omega arith)
+  not-added : (j t : ℕ) → (core vcpus j ≡ core vcpus i → ⊥) → upto (j + 1) t ≡ upto j t
+  not-added j t e = need-next (budget vcpus i) (vcpuPeriod vcpus) (vcpuCharge vcpus i) j t ∙ rw (other-core vcpus i j e) (omega arith)
 
   pub on-core-start : (periods budgets : List ℕ) → OnCore vcpus i 0 0 periods budgets
   unfolding need
@@ -34,7 +31,7 @@ module _ (vcpus : List ℕ) (i : ℕ) where
 
   module _ {j n : ℕ} {periods budgets : List ℕ} (c : OnCore vcpus i j n periods budgets) where
     pub on-core-miss : (core vcpus j ≡ core vcpus i → ⊥) → OnCore vcpus i (j + 1) n periods budgets
-    on-core-miss e = record { few = omega (arith, c .few); within = c .within; same = λ t. c .same t ∙ sym (other-core j t e) }
+    on-core-miss e = record { few = omega (arith, c .few); within = c .within; same = λ t. c .same t ∙ sym (not-added j t e) }
 
     pub on-core-hit : core vcpus j ≡ core vcpus i → VcpuRow vcpus j → (p b : ℕ) → p ≡ vcpuPeriod vcpus j → b ≡ budget vcpus j
         → n < length periods → n < length budgets → OnCore vcpus i (j + 1) (n + 1) (set periods n p) (set budgets n b)
@@ -64,7 +61,7 @@ module _ (vcpus : List ℕ) (i : ℕ) where
               ∙ ap₂ (λ (x y : ℕ). x + y)
               (need-same (budget vcpus i) (λ (k : ℕ). getD periods k 0) (λ (k : ℕ). getD (set periods n p) k 0) (λ (k : ℕ). getD budgets k 0) (λ (k : ℕ). getD (set budgets n b) k 0) n t earlier ∙ c .same t)
               (rw (period, charged) refl)
-              ∙ sym (same-core j t e);
+              ∙ sym (added j t e);
         }
 
 -- what a search of a VCPU keeps, its budget and the entries of its core, gives its need

@@ -8,9 +8,10 @@ use lib.Arith.{bin-ind}
 use lib.Bits.{bitAnd, and-step, and-zero-l}
 use lib.Count.{ones, ones-step}
 use lib.ListN.{getD}
+use borrow.Author.Tests.{eq-eqb, ne-eqb}
 use Rattle.supply.specs.Supply.{supply, firstSupply, Budget}
 use Rattle.supply.proofs.Laws.{first-le, le-supply, le-first}
-use Rattle.rows.specs.RowWords.{vcpuPeriod, budget, taskPeriod, colourSet, cost, vcpuRows, taskRows}
+use Rattle.rows.specs.RowWords.{core, vcpuPeriod, budget, taskPeriod, colourSet, cost, vcpuRows, taskRows}
 use Rattle.rows.specs.Reload.{heldFrom, reloaded, charge, charges}
 use Rattle.times.specs.Times.{arrivals, need, taskNeed, vcpuCharge, vcpuNeed}
 use Rattle.rows.proofs.Charging.{reloaded-is, charge-kept}
@@ -71,6 +72,15 @@ task-searchable p q reload part i b some =
 
 pub task-search : (p q reload : ℕ) (part : List ℕ) (i : ℕ) → Budget p q → Tasks part → i < taskRows part → Searchable (supply p q) (taskNeed reload part i) (firstSupply p q)
 task-search p q reload part i b rows here = task-searchable p q reload part i b (rows .row i here .cost-low)
+
+-- an earlier VCPU charges its budget on its core, and nothing on another
+pub same-core : (vcpus : List ℕ) (i j : ℕ) → core vcpus j ≡ core vcpus i → vcpuCharge vcpus i j ≡ budget vcpus j
+unfolding vcpuCharge
+same-core vcpus i j e = simp (eq-eqb (core vcpus j) (core vcpus i) e, eq-eqb (core vcpus i) (core vcpus j) (sym e))
+
+pub other-core : (vcpus : List ℕ) (i j : ℕ) → (core vcpus j ≡ core vcpus i → ⊥) → vcpuCharge vcpus i j ≡ 0
+unfolding vcpuCharge
+other-core vcpus i j d = simp (ne-eqb (core vcpus j) (core vcpus i) d, ne-eqb (core vcpus i) (core vcpus j) (λ e. d (sym e)))
 
 -- and a VCPU with some budget
 pub vcpu-searchable : (vcpus : List ℕ) (i : ℕ) → 1 ≤ budget vcpus i → Searchable (λ (t : ℕ). t) (vcpuNeed vcpus i) (λ (x : ℕ). x)

@@ -5,7 +5,7 @@ use native.Mathlib.Nat.{le-refl, le-trans, add-le-add, mul-le-mul, mul-le-mul-le
 use native.Mathlib.Numerals.{add-one}
 use native.Mathlib.Omega.{arith}
 use mathlib.Core.Logic.{⊎-elim}
-use mathlib.Core.Path.{_≡_, refl, sym, _∙_}
+use mathlib.Core.Path.{_≡_, refl, sym, ap, _∙_}
 use Rattle.times.specs.Times.{arrivals, need}
 
 div-mono : (k : ℕ) {a c : ℕ} → a ≤ c → a / k ≤ c / k
@@ -19,14 +19,19 @@ pub arrivals-mono : (period s t : ℕ) → s ≤ t → arrivals s period ≤ arr
 unfolding arrivals
 arrivals-mono period s t h = div-mono period (omega arith)
 
+-- rounded up, by whatever words; what follows goes by this
+pub arrivals-are : (period t : ℕ) → 1 ≤ period → arrivals t period ≡ (t + (period - 1)) / period
+unfolding arrivals
+arrivals-are period t pos = ap (λ (n : ℕ). n / period) (omega arith)
+
 -- so many arrivals as cover t, and no more
 arrivals-cover : (period t : ℕ) → 1 ≤ period → t ≤ arrivals t period * period
-unfolding arrivals
-arrivals-cover period t pos = omega (arith, div-add-mod' (t + (period - 1)) period, mod-lt (t + (period - 1)) pos)
+arrivals-cover period t pos =
+    omega (arith, arrivals-are period t pos, ap (λ (n : ℕ). n * period) (arrivals-are period t pos), div-add-mod' (t + (period - 1)) period, mod-lt (t + (period - 1)) pos)
 
 pub arrivals-least : (period t k : ℕ) → 1 ≤ period → t ≤ k * period → arrivals t period ≤ k
-unfolding arrivals
-arrivals-least period t k pos h = le-of-suc-le-suc (div-lt-iff-lt-mul {y = suc k} pos .1 (omega (arith, h, suc-mul k period)))
+arrivals-least period t k pos h =
+    rw (arrivals-are period t pos) (le-of-suc-le-suc (div-lt-iff-lt-mul {y = suc k} pos .1 (omega (arith, h, suc-mul k period))))
 
 -- fewer of a longer period
 pub arrivals-fall : (t period period′ : ℕ) → 1 ≤ period → period ≤ period′ → arrivals t period′ ≤ arrivals t period
@@ -39,10 +44,8 @@ pub arrivals-le : (period t : ℕ) → arrivals t period ≤ t
 unfolding arrivals
 arrivals-le period t =
     ⊎-elim
-    (λ z. rw z (omega (arith, div-zero (t + (0 - 1)))))
-    (λ pos.
-    let fits : t + (period - 1) < suc t * period = omega (arith, suc-mul t period, le-mul-of-pos-right t pos) in
-    le-of-suc-le-suc (div-lt-iff-lt-mul {y = suc t} pos .1 fits))
+    (λ z. rw z (le-trans (le-of-eq (div-zero _)) (omega arith)))
+    (λ pos. arrivals-least period t t pos (le-mul-of-pos-right t pos))
     (eq-zero-or-pos period)
 
 module _ (own : ℕ) (period charge : ℕ → ℕ) where

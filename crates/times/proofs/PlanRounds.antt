@@ -7,7 +7,7 @@ use mathlib.Core.Bool.{Bool, true, false, true≢false}
 use mathlib.Core.List.{List}
 use mathlib.Core.Path.{_≡_, refl, sym, _∙_}
 use lib.Dec.{eqb}
-use borrow.Author.Tests.{eq-eqb}
+use borrow.Author.Tests.{eq-eqb, eqb-false}
 use Rattle.lists.proofs.Split.{cases}
 use Rattle.supply.specs.Supply.{supply, Budget}
 use Rattle.rows.specs.RowWords.{core, vcpuPeriod, budget, vcpuOf, taskPeriod, deadline, cost, vcpuRows, taskRows}
@@ -18,7 +18,7 @@ use Rattle.rows.proofs.Parts.{none-before, part-word, part-own, row-in-part}
 use Rattle.times.specs.Times.{arrivals, taskNeed, vcpuCharge, vcpuNeed}
 use Rattle.times.specs.Rounds.{roundsFrom, rounds, roundsInPart, taskRounds, vcpuRounds, roundsBound, taskBound, vcpuBound}
 use Rattle.times.proofs.Needs.{arrivals-mono, arrivals-least, arrivals-fall, arrivals-le}
-use Rattle.times.proofs.Bounds.{task-search, vcpu-search}
+use Rattle.times.proofs.Bounds.{task-search, other-core, vcpu-search}
 use Rattle.times.proofs.Counted.{allowed, ends-by-itself}
 use Rattle.times.proofs.RoundsBound.{rounds-bounded}
 use Rattle.times.proofs.Fit.{fit, rounds-over-part}
@@ -75,9 +75,9 @@ task-rounds-bounded reload vcpus tasks plan j h =
     (rw (due-in-part tasks (plan .ascending) j h, same, at) at (part-rounds-bounded _ _ reload (partOf tasks v) (j - start) (f .budgeted) (f .rows) (f .within)))
 
 pub vcpu-rounds-bounded : (vcpus : List ℕ) → Vcpus vcpus → (i : ℕ) → i < vcpuRows vcpus → vcpuRounds vcpus i ≤ vcpuBound vcpus i
-unfolding vcpuRounds vcpuBound vcpuNeed vcpuCharge
+unfolding vcpuRounds vcpuBound vcpuNeed
 vcpu-rounds-bounded vcpus rows i here =
-    rounds-bounded (λ (k : ℕ). eqb (core vcpus k) (core vcpus i)) (vcpuPeriod vcpus) (budget vcpus i) (vcpuCharge vcpus i) (λ j e. rw e refl) i (vcpuPeriod vcpus i)
+    rounds-bounded (λ (k : ℕ). eqb (core vcpus k) (core vcpus i)) (vcpuPeriod vcpus) (budget vcpus i) (vcpuCharge vcpus i) (λ j e. other-core vcpus i j (eqb-false (core vcpus j) (core vcpus i) e)) i (vcpuPeriod vcpus i)
     (vcpu-search vcpus i rows here) (has-period i here) (λ j l. has-period j (omega arith))
   where
     has-period : (j : ℕ) → j < vcpuRows vcpus → 1 ≤ vcpuPeriod vcpus j

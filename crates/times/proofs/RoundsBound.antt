@@ -4,19 +4,20 @@ use Prim.Native.Nat.{ℕ, zero, suc, _+_, _-_, _<_, _≤_}
 use native.Mathlib.Nat.{le-refl, lt-irrefl, le-trans, add-le-add, div-self, mul-zero}
 use native.Mathlib.Omega.{arith}
 use mathlib.Core.Bool.{Bool, false}
-use mathlib.Core.Path.{_≡_, refl, ap}
+use mathlib.Core.Path.{_≡_, refl, ap, _∙_}
 use Rattle.lists.specs.Choice.{if_then_else_}
 use Rattle.lists.proofs.Split.{cases, below-or-not}
 use Rattle.times.specs.Times.{arrivals, need}
 use Rattle.times.specs.Rounds.{roundsFrom, rounds, roundsBound}
 use Rattle.times.proofs.Search.{Searchable}
-use Rattle.times.proofs.Needs.{arrivals-mono}
+use Rattle.times.proofs.Needs.{arrivals-mono, arrivals-are}
 use Rattle.times.proofs.Counted.{ends, exceeds, goes-on, later}
 
 -- in the first microsecond each row arrives once
 first-arrival : (period : ℕ) → 1 ≤ period → arrivals 1 period ≡ 1
-unfolding arrivals
-first-arrival period low = let whole : 1 + (period - 1) ≡ period = omega arith in rw whole (div-self low)
+first-arrival period low =
+    let whole : 1 + (period - 1) ≡ period = omega arith in
+    arrivals-are period 1 low ∙ rw whole (div-self low)
 
 module _ (counts : ℕ → Bool) (period : ℕ → ℕ) where
   -- the arrivals in t of those of the first n rows that count
