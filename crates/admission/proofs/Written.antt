@@ -4,11 +4,11 @@ use native.Mathlib.Nat.{zero-add}
 use native.Mathlib.Omega.{arith}
 use mathlib.Core.List.{List, _++_, map}
 use mathlib.Core.Path.{_≡_, sym, ap, _∙_}
-use lib.ListN.{length, take, length-append}
+use lib.ListN.{length, take, drop, length-append}
 use Rattle.lists.specs.Range.{upto}
 use Rattle.lists.proofs.Found.{sought-le}
 use Rattle.lists.proofs.Written.{length-table}
-use Rattle.refusal.specs.Reply.{Reply, Refuses}
+use Rattle.refusal.specs.Reply.{Reply, Answers, Refuses}
 use Rattle.board.specs.declared.Board.{Board}
 use Rattle.rows.specs.RowWords.{vcpuRows, taskRows}
 use Rattle.times.specs.First.{Time}
@@ -27,6 +27,11 @@ module _ (b : Board) (reload : ℕ) (vcpus tasks times rounds : List ℕ) (reply
   pub rounds-by : listAfter reply (allRounds reload vcpus tasks) rounds ≡ roundsAfter b reload vcpus tasks times rounds
   unfolding roundsAfter
   rounds-by = rw (← e) (ap (λ (n : ℕ). listAfter (admissionReply b reload vcpus tasks n) (allRounds reload vcpus tasks) rounds) (omega arith))
+
+-- a list that is lent to an admitted plan and got the words found in its front
+pub front : (n : ℕ) (words numbers lent after : List ℕ) (reply : Reply (Unit {0})) → take n words ≡ numbers → length numbers ≡ n → reply ≡ Answers tt
+    → after ≡ take n words ++ drop n lent → after ≡ listAfter reply numbers lent
+front n words numbers lent after reply found long ok e = e ∙ rw (ok, found, long)
 
 -- a refusal leaves both lists as they were
 pub refused : (reply : Reply (Unit {0})) (n r : ℕ) (times lent rounds lent-rounds : List ℕ) → reply ≡ Refuses n r

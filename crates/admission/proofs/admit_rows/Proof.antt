@@ -1,6 +1,6 @@
 -- `admission::admit_rows` meets its contract: each return has the times that led there.
 use mathlib.Core.Bool.{false}
-use mathlib.Core.Path.{_≡_, sym, _∙_}
+use mathlib.Core.Path.{_≡_, sym}
 use lib.Dec.{ltb}
 use borrow.Author.Tests.{lt-ltb, le-ltb}
 use borrow.Author.Needs.{needs}
@@ -8,7 +8,7 @@ use Rattle.refusal.specs.Reply.{Answers, unless}
 use Rattle.rows.specs.RowWords.{vcpuRows}
 use Rattle.admission.specs.Admission.{timeTests}
 use Rattle.admission.proofs.Admits.{lateVcpu, time-reply}
-use Rattle.admission.proofs.Written.{refused, length-times, length-rounds, all-found}
+use Rattle.admission.proofs.Written.{front, refused, length-times, length-rounds, all-found}
 use Rattle.admission.proofs.admit_rows.Statement.{statement}
 use Rattle.admission.proofs.admit_rows.Tie as tie
 
@@ -80,8 +80,8 @@ returns-3 c =
     let all = all-found (a .reload) (a .vcpus .now) (a .tasks .now) v (e .if1 .left) t (w .if2 .left) in (
       sym ok,
       (
-        first second .write-front .ensures ∙ rw (ok, all .0, length-times (a .reload) (a .vcpus .now) (a .tasks .now)),
-        second .write-front2 .ensures ∙ rw (ok, all .1, length-rounds (a .reload) (a .vcpus .now) (a .tasks .now)),
+        front _ _ _ _ _ _ (all .0) (length-times (a .reload) (a .vcpus .now) (a .tasks .now)) ok (first second .write-front .ensures),
+        front _ _ _ _ _ _ (all .1) (length-rounds (a .reload) (a .vcpus .now) (a .tasks .now)) ok (second .write-front2 .ensures),
       ),
     )
 
