@@ -6,7 +6,7 @@ use native.Mathlib.Nat.{le-refl, lt-irrefl, le-trans, zero-add, le-of-suc-le-suc
 use native.Mathlib.Omega.{arith}
 use mathlib.Core.Bool.{false, true≢false, or-true, or-false}
 use mathlib.Core.Path.{_≡_, refl, sym, ap, _∙_}
-use lib.Dec.{eqb, leb, ltb}
+use lib.Dec.{eqb, leb}
 use borrow.Author.Tests.{le-leb, lt-leb, lt-ltb, le-ltb, eq-eqb, ne-eqb, eqb-true, eqb-false}
 use Rattle.lists.proofs.Split.{cases, below-or-not}
 use Rattle.times.specs.First.{Time, At, Late, firstTime}
