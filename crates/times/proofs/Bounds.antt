@@ -58,6 +58,15 @@ module _ (reload : ℕ) (part : List ℕ) (i own : ℕ) (charged : List ℕ) (ow
       (need-same (cost part i) (taskPeriod part) (taskPeriod part) (charge reload part i) (λ (j : ℕ). getD (charges reload part i) j 0) i t
       (λ j l. (refl, charge-kept reload part i few j l)))
 
+-- an earlier VCPU charges its budget on its core, and nothing on another
+pub same-core : (vcpus : List ℕ) (i j : ℕ) → core vcpus j ≡ core vcpus i → vcpuCharge vcpus i j ≡ budget vcpus j
+unfolding vcpuCharge
+same-core vcpus i j e = cc (eq-eqb (core vcpus j) (core vcpus i) e, eq-eqb (core vcpus i) (core vcpus j) (sym e))
+
+pub other-core : (vcpus : List ℕ) (i j : ℕ) → (core vcpus j ≡ core vcpus i → ⊥) → vcpuCharge vcpus i j ≡ 0
+unfolding vcpuCharge
+other-core vcpus i j d = cc (ne-eqb (core vcpus j) (core vcpus i) d, ne-eqb (core vcpus i) (core vcpus j) (λ e. d (sym e)))
+
 -- the search serves a task with some cost, under a budget
 pub task-searchable : (p q reload : ℕ) (part : List ℕ) (i : ℕ) → Budget p q → 1 ≤ cost part i → Searchable (supply p q) (taskNeed reload part i) (firstSupply p q)
 unfolding taskNeed
@@ -72,15 +81,6 @@ task-searchable p q reload part i b some =
 
 pub task-search : (p q reload : ℕ) (part : List ℕ) (i : ℕ) → Budget p q → Tasks part → i < taskRows part → Searchable (supply p q) (taskNeed reload part i) (firstSupply p q)
 task-search p q reload part i b rows here = task-searchable p q reload part i b (rows .row i here .cost-low)
-
--- an earlier VCPU charges its budget on its core, and nothing on another
-pub same-core : (vcpus : List ℕ) (i j : ℕ) → core vcpus j ≡ core vcpus i → vcpuCharge vcpus i j ≡ budget vcpus j
-unfolding vcpuCharge
-same-core vcpus i j e = simp (eq-eqb (core vcpus j) (core vcpus i) e, eq-eqb (core vcpus i) (core vcpus j) (sym e))
-
-pub other-core : (vcpus : List ℕ) (i j : ℕ) → (core vcpus j ≡ core vcpus i → ⊥) → vcpuCharge vcpus i j ≡ 0
-unfolding vcpuCharge
-other-core vcpus i j d = simp (ne-eqb (core vcpus j) (core vcpus i) d, ne-eqb (core vcpus i) (core vcpus j) (λ e. d (sym e)))
 
 -- and a VCPU with some budget
 pub vcpu-searchable : (vcpus : List ℕ) (i : ℕ) → 1 ≤ budget vcpus i → Searchable (λ (t : ℕ). t) (vcpuNeed vcpus i) (λ (x : ℕ). x)

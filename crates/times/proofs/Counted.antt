@@ -1,6 +1,6 @@
 -- The rounds of a search, over any need and supply with a first time for each amount: what one round does, that the search ends by itself, and
 -- what a loop by rounds knows when it comes to t, of the time and of the rounds. The laws of one round go by its cases and not by the words of
--- the definition, so that another wording of the same round meets them too; all else goes by these laws.
+-- the definition, so that another wording of the same round meets them too; what else is said of a round goes by these laws.
 use Prim.Native.Nat.{ℕ, zero, suc, _+_, _-_, _<_, _≤_}
 use native.Mathlib.Nat.{le-refl, lt-irrefl, le-trans, zero-add, le-of-suc-le-suc, not-suc-le-zero}
 use native.Mathlib.Omega.{arith}

@@ -27,7 +27,7 @@ arrivals-are period t pos = ap (λ (n : ℕ). n / period) (omega arith)
 -- so many arrivals as cover t, and no more
 arrivals-cover : (period t : ℕ) → 1 ≤ period → t ≤ arrivals t period * period
 arrivals-cover period t pos =
-    omega (arith, arrivals-are period t pos, ap (λ (n : ℕ). n * period) (arrivals-are period t pos), div-add-mod' (t + (period - 1)) period, mod-lt (t + (period - 1)) pos)
+    rw (arrivals-are period t pos) (omega (arith, div-add-mod' (t + (period - 1)) period, mod-lt (t + (period - 1)) pos))
 
 pub arrivals-least : (period t k : ℕ) → 1 ≤ period → t ≤ k * period → arrivals t period ≤ k
 arrivals-least period t k pos h =
