@@ -1,12 +1,17 @@
--- What the reply of a call says of its tests: a refusal is theirs, and where it answers they all pass.
+-- What the reply of a call says of its tests: a refusal is theirs, and where it answers they all pass. In a call that names a page 10 comes right
+-- after 2 to 8, and where these pass the call's own tests settle it.
 use Prim.Native.Nat.{ℕ}
 use mathlib.Core.Bool.{true}
-use mathlib.Core.List.{List, [], _∷_}
-use mathlib.Core.Path.{_≡_, refl}
+use mathlib.Core.List.{List, [], _∷_, _++_, append-assoc}
+use mathlib.Core.Path.{_≡_, refl, ap, _∙_}
+use lib.ListN.{length}
 use Rattle.lists.proofs.Split.{cases}
 use Rattle.refusal.specs.Reply.{Answers, Refuses, Test, unless, passes}
+use Rattle.refusal.proofs.Replies.{passed-answers}
+use Rattle.refusal.proofs.Order.{unless-passed}
+use Rattle.board.specs.Tests.{callTests}
 use Rattle.calls.specs.Table.{State}
-use Rattle.calls.specs.Calls.{Answer, Done, settle}
+use Rattle.calls.specs.Calls.{Answer, Done, settle, called, pageTest, pageTests}
 
 module _ (s : State) (done : Done) where
   pub settled-refused : (ts : List Test) (n r : ℕ) → settle s (unless ts done) .reply ≡ Refuses n r → unless ts (tt {0}) ≡ Refuses n r
@@ -20,3 +25,14 @@ module _ (s : State) (done : Done) where
   settled-answers [] a e = (refl, cc)
   settled-answers (t ∷ ts) a e =
       cases (t .fails) (λ f. (cc (rw f at e), cc (rw f at e))) (λ f. rw f (settled-answers ts a (rw f at e)))
+
+module _ (s : State) (d p : ℕ) (own : List Test) (done : Done) where
+  abbrev tests : List Test
+  tests = pageTests (s .board) (length (s .table)) d p
+
+  pub ten-first : called s d (pageTest p ∷ own) done ≡ settle s (unless (tests ++ own) done)
+  unfolding called
+  ten-first = rw (append-assoc (callTests (s .board) (length (s .table)) d) (pageTest p ∷ []) own)
+
+  pub ten-passed : passes tests ≡ true → called s d (pageTest p ∷ own) done ≡ settle s (unless own done)
+  ten-passed e = ten-first ∙ ap (settle s) (unless-passed (tt {0}) done tests own (passed-answers tests (tt {0}) e))

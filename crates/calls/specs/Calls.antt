@@ -56,6 +56,10 @@ called s d own done = settle s (unless (callTests (s .board) (length (s .table))
 abbrev pub pageTest : ℕ → Test
 pageTest p = test 10 (ltb 4095 p)
 
+-- of a call that names a page: 2 to 8, then 10
+abbrev pub pageTests : Board → ℕ → ℕ → ℕ → List Test
+pageTests b words d p = callTests b words d ++ (pageTest p ∷ [])
+
 -- an answer that changes nothing
 abbrev pub only : State → Answer → Done
 only s a = record { answer = a; moves = []; next = s }

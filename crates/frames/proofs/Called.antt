@@ -1,17 +1,19 @@
 -- From the reply of 2 to 8, or of 2 to 8 and 10, to the outcome of a call: a refusal settles it, and otherwise the call's own tests do.
 use Prim.Native.Nat.{ℕ, _≤_}
-use mathlib.Core.List.{List, [], _∷_, _++_, append-assoc}
+use mathlib.Core.List.{List, [], _∷_, _++_}
+use mathlib.Core.Bool.{true}
 use mathlib.Core.Path.{_≡_, sym, ap, _∙_}
 use lib.ListN.{length}
 use borrow.Author.Tests.{ltb-false}
-use Rattle.refusal.specs.Reply.{Answers, Refuses, Test, unless}
+use Rattle.refusal.specs.Reply.{Answers, Refuses, Test, unless, passes}
 use Rattle.refusal.proofs.Replies.{passed-first, passed-answers, answers-passed}
 use Rattle.refusal.proofs.Order.{unless-refused, unless-passed, passed-earlier, passed-later}
 use Rattle.board.specs.declared.Board.{Board}
 use Rattle.board.specs.Tests.{callTests, callReply}
 use Rattle.board.proofs.Passed.{Accepted, accepted}
 use Rattle.calls.specs.Table.{State}
-use Rattle.calls.specs.Calls.{Answer, Done, Outcome, settle, called, pageTest}
+use Rattle.calls.proofs.Settled.{ten-first}
+use Rattle.calls.specs.Calls.{Answer, Done, Outcome, settle, called, pageTest, pageTests}
 use Rattle.frames.specs.Steps.{pageReply}
 
 -- a call that is refused, and one that answers and changes nothing
@@ -39,19 +41,15 @@ module _ (s : State) (d : ℕ) (own : List Test) (done : Done) where
 
   -- calls that name a page
   module _ (p : ℕ) where
-    ten-first : called s d (pageTest p ∷ own) done ≡ settle s (unless ((first ++ (pageTest p ∷ [])) ++ own) done)
-    unfolding called
-    ten-first = rw (append-assoc first (pageTest p ∷ []) own)
-
     pub page-refused :
         (n r : ℕ) → pageReply (s .board) (length (s .table)) d p ≡ Refuses n r → called s d (pageTest p ∷ own) done ≡ refused s n r
     unfolding pageReply settle
-    page-refused n r e = ten-first ∙ ap (settle s) (unless-refused (tt {0}) done (first ++ (pageTest p ∷ [])) own n r e)
+    page-refused n r e = ten-first s d p own done ∙ ap (settle s) (unless-refused (tt {0}) done (first ++ (pageTest p ∷ [])) own n r e)
 
     pub page-passed :
         pageReply (s .board) (length (s .table)) d p ≡ Answers tt → called s d (pageTest p ∷ own) done ≡ settle s (unless own done)
     unfolding pageReply
-    page-passed e = ten-first ∙ ap (settle s) (unless-passed (tt {0}) done (first ++ (pageTest p ∷ [])) own e)
+    page-passed e = ten-first s d p own done ∙ ap (settle s) (unless-passed (tt {0}) done (first ++ (pageTest p ∷ [])) own e)
 
 -- 10 comes after 2 to 8
 module _ (b : Board) (words d p : ℕ) where
@@ -62,6 +60,10 @@ module _ (b : Board) (words d p : ℕ) where
   pub ten-left : callReply b words d ≡ Answers tt → pageReply b words d p ≡ unless (pageTest p ∷ []) tt
   unfolding callReply pageReply
   ten-left = unless-passed (tt {0}) (tt {0}) (callTests b words d) (pageTest p ∷ [])
+
+  pub page-passes : pageReply b words d p ≡ Answers tt → passes (pageTests b words d p) ≡ true
+  unfolding pageReply
+  page-passes e = answers-passed (pageTests b words d p) (tt {0}) tt e .0
 
   -- what 2 to 8 and 10 give
   pub page-accepted : pageReply b words d p ≡ Answers tt → Accepted b words d × (p ≤ 4095)

@@ -7,12 +7,13 @@ ghost use Rattle.calls.specs.Calls.{look as lookCall, fault as faultCall, relea
 ghost use Rattle.frames.specs.Paper.{paperLooked, paperFaulted, paperReleased};
 ghost use Rattle.frames.specs.Steps.{pageReply};
 use crate::scan::next_word;
+use crate::scan::shut_lanes;
 use crate::scan::word_for;
-use crate::scan::word_or_free;
 use board::Board;
 use board::Checked;
 use board::active_set;
 use board::check_call;
+use pass::go_over;
 use refusal::Refusal;
 
 const LAST_PAGE: u32 = 4095;
@@ -67,9 +68,8 @@ pub fn look(board: Board, table: &[u16], domain: u32, page: u32) -> Looked
     }
 }
 
-// The frame of the page, old or new. The table is gone over upwards: to the first frame that has the
-// word or could be taken, whose word is then read a second time to tell which of the two it is, and
-// from there on for the word alone, by blocks of sixteen, of which the one that has it is read twice.
+// The frame of the page, old or new: the one pass over the table, and the word to the frame that it found
+// free where the page has none.
 pub fn fault(board: Board, table: &mut [u16], domain: u32, page: u32) -> Faulted
     ensures { λ r. ⌜ paperFaulted r ≡ (faultCall (stateOf board (now (table .entry))) domain page) .reply ⌝ }
     ensures { λ r. ⌜ now (table .exit) ≡ (faultCall (stateOf board (now (table .entry))) domain page) .next .table ⌝ }
@@ -78,20 +78,17 @@ pub fn fault(board: Board, table: &mut [u16], domain: u32, page: u32) -> Faulted
         return Faulted::Refused(refusal);
     }
     let word = word_for(domain, page);
-    let set = active_set(board, domain);
-    let first = word_or_free(table, word, board.colours as usize, set);
-    if first == table.len() {
-        return Faulted::Refused(Refusal { number: 12, row: 0 });
+    let shut = shut_lanes(board.colours as usize, active_set(board, domain));
+    let kept = go_over(table, word, shut);
+    if 0 < kept.mapped {
+        return Faulted::Old((kept.mapped - 1) as u32);
     }
-    if table[first] == word {
-        return Faulted::Old(first as u32);
+    if 0 < kept.free {
+        let frame = kept.free - 1;
+        table[frame] = word;
+        return Faulted::New(frame as u32);
     }
-    let mapped = next_word(table, first + 1, word);
-    if mapped < table.len() {
-        return Faulted::Old(mapped as u32);
-    }
-    table[first] = word;
-    Faulted::New(first as u32)
+    Faulted::Refused(Refusal { number: 12, row: 0 })
 }
 
 // The frame that look finds becomes free.

@@ -8,7 +8,7 @@ ghost use lib.ListN.{length};
 ghost use Rattle.lists.specs.Range.{keep, upto, any, lowest, lowestFrom};
 ghost use Rattle.colours.specs.Cache.{isColourCount};
 ghost use Rattle.calls.specs.Table.{wordOf, isOf, inSet, hasWord, isFree, isStray};
-ghost use Rattle.frames.specs.Steps.{stop};
+ghost use Rattle.pass.specs.Kept.{lanesOf};
 
 // The word of a frame that a domain holds for a page.
 pub(crate) fn word_for(domain: u32, page: u32) -> u16
@@ -25,6 +25,20 @@ fn in_set(colours: usize, set: u32, frame: usize) -> bool
     ensures { λ r. ⌜ r ≡ inSet colours set frame ⌝ }
 {
     (set >> ((frame & (colours - 1)) as u32)) % 2 == 1
+}
+
+// The lanes of sixteen frames whose colour is not in a set.
+pub(crate) fn shut_lanes(colours: usize, set: u32) -> [u16; 16]
+    requires { ⌜ isColourCount colours ≡ true ⌝ }
+    ensures { λ r. ⌜ r ≡ lanesOf colours set ⌝ }
+{
+    let mut shut = [0u16; 16];
+    let mut lane: usize = 0;
+    while lane < 16 {
+        shut[lane] = if in_set(colours, set, lane) { 0 } else { 1 };
+        lane += 1;
+    }
+    shut
 }
 
 // Whether a frame with this word is free and has a colour in a set.
@@ -82,24 +96,6 @@ pub(crate) fn next_word(table: &[u16], start: usize, word: u16) -> usize
     let mut f = pass_to_word(table, start, word);
     while f < table.len() {
         if table[f] == word {
-            return f;
-        }
-        f += 1;
-    }
-    f
-}
-
-// The lowest frame that has a word, or is free with a colour in a set.
-pub(crate) fn word_or_free(table: &[u16], word: u16, colours: usize, set: u32) -> usize
-    requires { ⌜ isColourCount colours ≡ true ⌝ }
-    ensures { λ r. ⌜ r ≡ lowest (stop (now (table .entry)) word colours set) (length (now (table .entry))) ⌝ }
-{
-    let mut f: usize = 0;
-    while f < table.len() {
-        if table[f] == word {
-            return f;
-        }
-        if is_free_in(table[f], colours, set, f) {
             return f;
         }
         f += 1;

@@ -1,5 +1,5 @@
 -- What a search along a range has found: the lowest number that passes heads the list of those that do, and nothing before it passes.
-use Prim.Native.Nat.{ℕ, zero, suc, _+_, _-_, _<_, _≤_}
+use Prim.Native.Nat.{ℕ, zero, suc, _+_, _-_, _<_, _≤_, zero-le}
 use native.Mathlib.Nat.{le-refl, eq-or-lt-of-le, lt-irrefl}
 use native.Mathlib.Omega.{arith}
 use mathlib.Core.Bool.{Bool, true, false, true≢false}
@@ -95,6 +95,13 @@ module _ (p : ℕ → Bool) where
 
   pub missed-list : (i n : ℕ) → i ≤ n → n ≤ lowestFrom p i n → ahead p i n ≡ []
   missed-list i n l h = ahead-past i n n l (le-refl n) (missed i n h) ∙ ahead-end p n n (le-refl n)
+
+  -- the list of those that pass, by the lowest of them
+  pub kept-found : (n : ℕ) → lowest p n < n → keep p (upto n) ≡ lowest p n ∷ ahead p (lowest p n + 1) n
+  kept-found n h = ahead-start p n ∙ found 0 n h .list
+
+  pub kept-missed : (n : ℕ) → n ≤ lowest p n → keep p (upto n) ≡ []
+  kept-missed n h = ahead-start p n ∙ missed-list 0 n zero-le h
 
   -- a search may start after numbers that do not pass
   pub sought-past : (i j n : ℕ) → i ≤ j → j ≤ n → ((m : ℕ) → i ≤ m → m < j → p m ≡ false) → lowestFrom p i n ≡ lowestFrom p j n

@@ -5,7 +5,7 @@ use native.Mathlib.Omega.{arith}
 use mathlib.Core.Bool.{Bool}
 use mathlib.Core.Path.{_≡_, refl, ap}
 use lib.ListN.{length}
-use Rattle.lists.specs.Range.{from, keep, lowestFrom}
+use Rattle.lists.specs.Range.{from, keep, lowest, lowestFrom}
 use Rattle.lists.proofs.Split.{cases, below-or-not}
 use Rattle.lists.proofs.Filter.{same-from}
 use Rattle.lists.proofs.Kept.{ahead}
@@ -15,6 +15,10 @@ module _ (p q : ℕ → Bool) where
   pub ahead-cong : (i n : ℕ) → ((m : ℕ) → i ≤ m → p m ≡ q m) → ahead p i n ≡ ahead q i n
   unfolding ahead
   ahead-cong i n same = same-from p q (n - i) i (λ m l h. same m l)
+
+  pub same-lowest : (n : ℕ) → ((m : ℕ) → m < n → p m ≡ q m) → lowest p n ≡ lowest q n
+  unfolding lowestFrom
+  same-lowest n same = rw (same-from p q (n - 0) 0 (λ m l h. same m (omega arith)))
 
 module _ (p : ℕ → Bool) where
   pub kept-le : (k i : ℕ) → length (keep p (from i k)) ≤ k

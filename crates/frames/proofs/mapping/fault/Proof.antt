@@ -1,20 +1,22 @@
--- `frames::mapping::fault` meets its contract: the outcomes of `Pages` for the first frame that has the word or could be taken, and for
--- the frame with the word after it.
-use Prim.Native.Nat.{ℕ, _+_, _≤_, _<_}
+-- `frames::mapping::fault` meets its contract: the outcomes of the one pass, by the frame that is known in the end.
+use Prim.Native.Nat.{ℕ, _-_, _≤_, _<_}
 use native.Mathlib.Omega.{arith}
+use mathlib.Core.Bool.{true}
 use mathlib.Core.List.{List}
 use mathlib.Core.Path.{_≡_, sym, ap, ap₂, _∙_}
 use lib.ListN.{length, set}
 use borrow.Author.Needs.{needs}
-use Rattle.lists.specs.Range.{lowest, lowestFrom}
-use Rattle.refusal.specs.Reply.{Answers}
+use Rattle.refusal.specs.Reply.{Answers, passes}
 use Rattle.board.specs.Paper.{paperChecked}
 use Rattle.board.specs.Tests.{activeSet}
-use Rattle.calls.specs.Table.{word, wordOf, hasWord}
-use Rattle.calls.specs.Calls.{Old, New, fault}
-use Rattle.frames.specs.Steps.{pageReply, stop}
-use Rattle.frames.proofs.Called.{told-by, page-refused, page-accepted}
-use Rattle.frames.proofs.Pages.{first-le, fault-none, fault-here, fault-later, fault-new}
+use Rattle.calls.specs.Table.{wordOf}
+use Rattle.calls.specs.Calls.{Old, New, fault, pageTests}
+use Rattle.pass.specs.declared.Kept.{Kept}
+use Rattle.pass.specs.Kept.{lanesOf, start, takeAll, after}
+use Rattle.pass.proofs.Closed.{Sound}
+use Rattle.pass.proofs.OnePass.{end-sound, old-frame, new-frame, no-frame}
+use Rattle.frames.specs.Steps.{pageReply}
+use Rattle.frames.proofs.Called.{told-by, page-refused, page-passes, page-accepted}
 use Rattle.frames.proofs.mapping.fault.Statement.{statement}
 use Rattle.frames.proofs.mapping.fault.Tie as tie
 
@@ -22,27 +24,21 @@ use Rattle.frames.proofs.mapping.fault.Tie as tie
 abbrev entry : tie.After-enum-told → tie.Start
 entry c = c .before .before .before .before
 
-abbrev told : tie.After-word-or-free → tie.After-enum-told
-told c = c .before .before .before .before .before
+abbrev told : tie.After-active-set → tie.After-enum-told
+told c = c .before .before .before
 
-abbrev begun : tie.After-word-or-free → tie.Start
-begun c = entry (told c)
+abbrev chosen : tie.After-go-over → tie.After-active-set
+chosen c = c .before .before .before
 
--- the first frame was found and not past the table; it has not the word; the word was looked for after it
-abbrev there : tie.Else2 → tie.Else1
-there c = c .before .before
+abbrev begun : tie.After-go-over → tie.Start
+begun c = entry (told (chosen c))
 
-abbrev again : tie.After-next-word → tie.Else2
-again c = c .before .before
-
-abbrev searched : tie.After-next-word → tie.After-word-or-free
-searched c = there (again c) .before
+-- the pass is over, and the page has no frame; a frame is to be taken
+abbrev unmapped : tie.After-struct-known5 → tie.After-go-over
+unmapped c = c .before .before .before .before .before
 
 abbrev table : tie.Start → List ℕ
 table s = s .args .table .now
-
-abbrev wanted : tie.Start → ℕ
-wanted s = wordOf (s .args .domain) (s .args .page)
 
 abbrev Passes-10 : tie.Start → Type 0
 Passes-10 s = pageReply (s .args .board) (length (table s)) (s .args .domain) (s .args .page) ≡ Answers tt
@@ -50,52 +46,35 @@ Passes-10 s = pageReply (s .args .board) (length (table s)) (s .args .domain) (s
 passes-10 : (c : tie.After-enum-told) → Passes-10 (entry c)
 passes-10 c = sym (c .before .before .check-page .ensures) ∙ ap paperChecked (c .enum-told .given .1)
 
--- the first frame that has the word or could be taken
-abbrev first : tie.Start → ℕ
-first s =
-    lowest (stop (table s) (wanted s) (s .args .board .colours) (activeSet (s .args .board) (s .args .domain))) (length (table s))
+fine : (c : tie.After-go-over) → let s = begun c in passes (pageTests (s .args .board) (length (table s)) (s .args .domain) (s .args .page)) ≡ true
+fine c = page-passes _ _ _ _ (passes-10 (told (chosen c)))
 
-word-is : (c : tie.After-word-or-free) → c .before .before .before .before .word-for .result ≡ wanted (begun c)
-word-is c = c .before .before .before .before .word-for .ensures
+-- what is kept in the end
+abbrev end : tie.Start → Kept
+end s = after (s .args .board) (s .args .domain) (s .args .page) (table s)
 
-first-is : (c : tie.After-word-or-free) → c .word-or-free .result ≡ first (begun c)
-first-is c =
-    let t : List ℕ = table (begun c) in
-    c .word-or-free .ensures
-    ∙ ap₂ (λ (w s : ℕ). lowest (stop t w (begun c .args .board .colours) s) (length t)) (word-is c) (c .before .before .before .active-set .ensures)
+end-is : (c : tie.After-go-over) → c .go-over .result ≡ end (begun c)
+unfolding after
+end-is c =
+    let s = begun c in
+    c .go-over .ensures
+    ∙ ap₂ (λ (w : ℕ) (l : List ℕ). takeAll (start w l) (table s)) (chosen c .before .before .word-for .ensures)
+    (c .before .before .shut-lanes .ensures ∙ ap (lanesOf (s .args .board .colours)) (chosen c .active-set .ensures))
 
-below : (c : tie.Else1) → c .before .word-or-free .result < length (table (begun (c .before)))
-below c =
-    let a = begun (c .before) .args in
-    omega
-    (arith, first-is (c .before), first-le (a .board) (a .table .now) (a .domain) (a .page) (passes-10 (told (c .before))))
+mapped-is : (c : tie.After-go-over) → c .go-over .result .mapped ≡ end (begun c) .mapped
+mapped-is c = ap (λ (k : Kept). k .mapped) (end-is c)
 
-first-below : (c : tie.Else1) → first (begun (c .before)) < length (table (begun (c .before)))
-first-below c = omega (arith, below c, first-is (c .before))
+free-is : (c : tie.After-go-over) → c .go-over .result .free ≡ end (begun c) .free
+free-is c = ap (λ (k : Kept). k .free) (end-is c)
 
--- it has the word, or it has not
-abbrev Mapped-first : tie.Start → Type 0
-Mapped-first s = word (table s) (first s) ≡ wanted s
+sound : (c : tie.After-go-over) → Sound (wordOf (begun c .args .domain) (begun c .args .page)) 0 (table (begun c)) (end (begun c))
+sound c = let s = begun c in end-sound (s .args .board) (s .args .domain) (s .args .page) (table s) (fine c)
 
-here : (c : tie.Then2) → Mapped-first (begun (c .before .before .before))
-here c =
-    let w = c .before .before .before in
-    sym (ap (word (table (begun w))) (first-is w)) ∙ c .if2 .taken ∙ word-is w
+mapped-below : (c : tie.After-go-over) → c .go-over .result .mapped ≤ length (table (begun c))
+mapped-below c = omega (arith, mapped-is c, sound c)
 
-other : (c : tie.Else2) → Mapped-first (begun (there c .before)) → ⊥
-other c e =
-    let w = there c .before in
-    c .if2 .left (ap (word (table (begun w))) (first-is w) ∙ e ∙ sym (word-is w))
-
--- the frame with the word after it
-abbrev later : tie.Start → ℕ
-later s = lowestFrom (hasWord (table s) (wanted s)) (first s + 1) (length (table s))
-
-later-is : (c : tie.After-next-word) → c .next-word .result ≡ later (begun (searched c))
-later-is c =
-    let w = searched c in
-    let t : List ℕ = table (begun w) in
-    c .next-word .ensures ∙ ap₂ (λ (x f : ℕ). lowestFrom (hasWord t x) (f + 1) (length t)) (word-is w) (first-is w)
+free-below : (c : tie.After-go-over) → c .go-over .result .free ≤ length (table (begun c))
+free-below c = omega (arith, free-is c, sound c)
 
 check-page-requires : tie.Need-check-page-requires
 check-page-requires c κs = search needs
@@ -107,8 +86,8 @@ returns : tie.Need-returns
 unfolding fault
 returns c =
     let a = c .before .before .before .before .before .args in
-    let start = sym (c .before .before .before .check-page .ensures) ∙ ap paperChecked (c .before .refusal .given .1) in
-    told-by _ _ (page-refused _ (a .domain) _ _ (a .page) _ _ start)
+    let first = sym (c .before .before .before .check-page .ensures) ∙ ap paperChecked (c .before .refusal .given .1) in
+    told-by _ _ (page-refused _ (a .domain) _ _ (a .page) _ _ first)
 
 enum-told : tie.Need-enum-told
 enum-told c = search needs
@@ -116,81 +95,66 @@ enum-told c = search needs
 word-for-requires : tie.Need-word-for-requires
 word-for-requires c κs = let g = page-accepted _ _ _ _ (passes-10 c) in (omega arith, g .1)
 
+cast-shut-lanes : tie.Need-cast-shut-lanes
+cast-shut-lanes c = search needs
+
 active-set-requires : tie.Need-active-set-requires
 active-set-requires c κs = search needs
 
-cast-word-or-free : tie.Need-cast-word-or-free
-cast-word-or-free c = search needs
+shut-lanes-requires : tie.Need-shut-lanes-requires
+shut-lanes-requires c κs = page-accepted _ _ _ _ (passes-10 (told c)) .0 .passed .count
 
-word-or-free-requires : tie.Need-word-or-free-requires
-word-or-free-requires c κs = page-accepted _ _ _ _ (passes-10 (c .before .before .before .before)) .0 .passed .count
+go-over-requires : tie.Need-go-over-requires
+go-over-requires c κs = search needs
+
+sub-t16 : tie.Need-sub-t16
+sub-t16 c = search needs
+
+cast-t17 : tie.Need-cast-t17
+cast-t17 c = let d = c .before .before .before in omega (arith, mapped-below d, page-accepted _ _ _ _ (passes-10 (told (chosen d))))
 
 same-length : tie.Need-same-length
 same-length c = search needs
 
 returns-2 : tie.Need-returns-2
 returns-2 c =
-    let s = begun (c .before) in
-    let none : length (table s) ≤ first s = omega (arith, first-is (c .before)) in
-    told-by _ _ (fault-none _ _ _ _ (passes-10 (told (c .before))) none)
+    let d = c .before .before .before in
+    let s = begun d in
+    let m = told-by _ _ (old-frame (s .args .board) (s .args .domain) (s .args .page) (table s) (fine d) (omega (arith, mapped-is d))) in
+    (ap (λ (f : ℕ). Answers (Old (f - 1))) (mapped-is d) ∙ m .0, m .1)
 
-mul-if2 : tie.Need-mul-if2
-mul-if2 c = omega (arith, below c)
+sub-frame : tie.Need-sub-frame
+sub-frame c = search needs
 
-slice-read-if2 : tie.Need-slice-read-if2
-slice-read-if2 c = below (c .before)
+mul-table : tie.Need-mul-table
+mul-table c = omega (arith, free-below (unmapped c), page-accepted _ _ _ _ (passes-10 (told (chosen (unmapped c)))))
 
-cast-t18 : tie.Need-cast-t18
-cast-t18 c = omega (arith, below (c .before .before), page-accepted _ _ _ _ (passes-10 (told (c .before .before .before))))
+slice-write-table : tie.Need-slice-write-table
+slice-write-table c = omega (arith, free-below (unmapped c))
+
+cast-t20 : tie.Need-cast-t20
+cast-t20 c = omega (arith, free-below (unmapped c), page-accepted _ _ _ _ (passes-10 (told (chosen (unmapped c)))))
 
 same-length-2 : tie.Need-same-length-2
 same-length-2 c = search needs
 
 returns-3 : tie.Need-returns-3
 returns-3 c =
-    let w = c .before .before .before in
-    let m = told-by _ _ (fault-here _ _ _ _ (passes-10 (told w)) (first-below (c .before .before)) (here c)) in
-    (ap (λ (f : ℕ). Answers (Old f)) (first-is w) ∙ m .0, m .1)
-
-add-next-word : tie.Need-add-next-word
-add-next-word c = omega (arith, below (there (c .before)))
-
-next-word-requires : tie.Need-next-word-requires
-next-word-requires c κs = omega (arith, below (there (c .before)))
-
-cast-t21 : tie.Need-cast-t21
-cast-t21 c = omega (arith, page-accepted _ _ _ _ (passes-10 (told (searched (c .before)))))
+    let d = unmapped c in
+    let s = begun d in
+    let m = told-by _ _ (new-frame (s .args .board) (s .args .domain) (s .args .page) (table s) (fine d) (omega (arith, mapped-is d)) (omega (arith, free-is d))) in (
+      ap (λ (f : ℕ). Answers (New (f - 1))) (free-is d) ∙ m .0,
+      ap₂ (λ (f w : ℕ). set (table s) (f - 1) w) (free-is d) (chosen d .before .before .word-for .ensures) ∙ m .1,
+    )
 
 same-length-3 : tie.Need-same-length-3
 same-length-3 c = search needs
 
 returns-4 : tie.Need-returns-4
 returns-4 c =
-    let w = searched (c .before) in
-    let is = later-is (c .before) in
-    let more : later (begun w) < length (table (begun w)) = omega (arith, is) in
-    let m = told-by _ _ (fault-later _ _ _ _ (passes-10 (told w)) (first-below (there (again (c .before)))) (other (again (c .before))) more) in
-    (ap (λ (f : ℕ). Answers (Old f)) is ∙ m .0, m .1)
-
-mul-table : tie.Need-mul-table
-mul-table c = omega (arith, below (there (again (c .before))))
-
-slice-write-table : tie.Need-slice-write-table
-slice-write-table c = below (there (again (c .before)))
-
-cast-t23 : tie.Need-cast-t23
-cast-t23 c = omega (arith, below (there (again (c .before))), page-accepted _ _ _ _ (passes-10 (told (searched (c .before)))))
-
-same-length-4 : tie.Need-same-length-4
-same-length-4 c = search needs
-
-returns-5 : tie.Need-returns-5
-returns-5 c =
-    let w = searched (c .before) in
-    let t : List ℕ = table (begun w) in
-    let none : length t ≤ later (begun w) = omega (arith, later-is (c .before)) in
-    let m = told-by _ _ (fault-new _ _ _ _ (passes-10 (told w)) (first-below (there (again (c .before)))) (other (again (c .before))) none) in
-    (ap (λ (f : ℕ). Answers (New f)) (first-is w) ∙ m .0, ap₂ (λ (f x : ℕ). set t f x) (first-is w) (word-is w) ∙ m .1)
+    let d = c .before .before .before .before in
+    let s = begun d in
+    told-by _ _ (no-frame (s .args .board) (s .args .domain) (s .args .page) (table s) (fine d) (omega (arith, mapped-is d)) (omega (arith, free-is d)))
 
 pub fault-spec : {M : Type 1} → statement M
 fault-spec =
@@ -201,23 +165,19 @@ fault-spec =
     returns
     enum-told
     word-for-requires
+    cast-shut-lanes
     active-set-requires
-    cast-word-or-free
-    word-or-free-requires
+    shut-lanes-requires
+    go-over-requires
+    sub-t16
+    cast-t17
     same-length
     returns-2
-    mul-if2
-    slice-read-if2
-    cast-t18
-    same-length-2
-    returns-3
-    add-next-word
-    next-word-requires
-    cast-t21
-    same-length-3
-    returns-4
+    sub-frame
     mul-table
     slice-write-table
-    cast-t23
-    same-length-4
-    returns-5)
+    cast-t20
+    same-length-2
+    returns-3
+    same-length-3
+    returns-4)

@@ -1,0 +1,165 @@
+-- What is kept after words that are taken in, said at once: the lowest of them that is the page's word settles it, and else the lowest that is
+-- free in an open lane. The laws of takeIn go by its cases; everything else goes by these.
+use Prim.Native.Nat.{ℕ, zero, suc, _+_, _%_, _<_, _≤_}
+use native.Mathlib.Nat.{le-refl, lt-irrefl, mod-lt}
+use native.Mathlib.Numerals.{add-one}
+use native.Mathlib.Omega.{arith}
+use mathlib.Core.Bool.{Bool, true, false, _&&_, and-true, and-false}
+use mathlib.Core.List.{List, [], _∷_, _++_}
+use mathlib.Core.Path.{_≡_, refl, sym, ap, ap₂, _∙_}
+use lib.Dec.{eqb, ltb}
+use lib.ListN.{length, getD, drop, getD-replicate, drop-of-length-le}
+use lib.Seq.{drop-cons}
+use borrow.Author.Tests.{lt-ltb, le-ltb}
+use Rattle.lists.specs.Choice.{if_then_else_}
+use Rattle.lists.specs.Range.{lowest, lowestFrom}
+use Rattle.lists.proofs.Split.{cases, below-or-not}
+use Rattle.lists.proofs.Sought.{sought-hit, sought-miss, sought-end}
+use Rattle.lists.proofs.Found.{sought-past}
+use Rattle.pass.specs.declared.Kept.{Kept}
+use Rattle.pass.specs.Kept.{isOpen, noLane, onwards, takeIn, takeAll}
+
+-- nothing more is taken in once the page's frame is known
+pub known-stays : (k : Kept) (xs : List ℕ) → 0 < k .mapped → takeAll k xs ≡ k
+unfolding takeAll takeIn
+known-stays k [] h = refl
+known-stays k (x ∷ xs) h = simp (lt-ltb 0 (k .mapped) h) (known-stays k xs h)
+
+-- words taken in one list after another
+pub take-append : (k : Kept) (xs ys : List ℕ) → takeAll k (xs ++ ys) ≡ takeAll (takeAll k xs) ys
+unfolding takeAll
+take-append k [] ys = refl
+take-append k (x ∷ xs) ys = take-append (takeIn k x) xs ys
+
+none-open : (f : ℕ) → isOpen noLane f ≡ false
+unfolding noLane
+none-open f = rw (getD-replicate {A = ℕ} 16 (f % 16) 1 0 (mod-lt f (omega arith)))
+
+-- the words xs of the frames from a on, in a fault for word w
+module _ (w a : ℕ) (xs : List ℕ) where
+  abbrev pub n : ℕ
+  n = length xs
+
+  abbrev pub isWord : ℕ → Bool
+  isWord i = eqb (getD xs i 0) w
+
+  abbrev pub isTaken : List ℕ → ℕ → Bool
+  isTaken shut i = eqb (getD xs i 0) 0 && isOpen shut (a + i)
+
+  -- after so many words: the page's word has come, with the last of them; it has not
+  abbrev pub found : ℕ → Kept
+  found f = record { word = w; shut = noLane; taken = f; mapped = f; free = 0 }
+
+  abbrev pub unmapped : ℕ → List ℕ → ℕ → Kept
+  unmapped f shut free = record { word = w; shut = shut; taken = f; mapped = 0; free = free }
+
+  -- what is kept in the end, by the lowest word that is the page's, and the lowest that is free in an open lane
+  abbrev pub settled : List ℕ → ℕ → ℕ → ℕ → Kept
+  settled shut free m g =
+      if ltb m n then found (a + m + 1) else if ltb g n then unmapped (a + n) noLane (a + g + 1) else unmapped (a + n) shut free
+
+  -- the cases of taking in word i
+  module _ (i : ℕ) (shut : List ℕ) (free : ℕ) where
+    abbrev here : Kept
+    here = unmapped (a + i) shut free
+
+    by-word : isWord i ≡ true → takeIn here (getD xs i 0) ≡ found (a + i + 1)
+    unfolding takeIn
+    by-word e = simp e
+
+    by-free : isWord i ≡ false → isTaken shut i ≡ true → takeIn here (getD xs i 0) ≡ unmapped (a + i + 1) noLane (a + i + 1)
+    unfolding takeIn
+    by-free e h = simp (e, h)
+
+    by-other : isWord i ≡ false → isTaken shut i ≡ false → takeIn here (getD xs i 0) ≡ unmapped (a + i + 1) shut free
+    unfolding takeIn
+    by-other e h = simp (e, h)
+
+  one-more : (i : ℕ) (k : Kept) → i < n → takeAll k (drop i xs) ≡ takeAll (takeIn k (getD xs i 0)) (drop (i + 1) xs)
+  unfolding takeAll
+  one-more i k l = rw (drop-cons xs i 0 l, add-one i)
+
+  -- what is settled by which of the two has come
+  module _ (shut : List ℕ) (free m g : ℕ) where
+    pub settled-word : m < n → settled shut free m g ≡ found (a + m + 1)
+    settled-word l = simp (lt-ltb m n l)
+
+    pub settled-free : n ≤ m → g < n → settled shut free m g ≡ unmapped (a + n) noLane (a + g + 1)
+    settled-free h l = simp (le-ltb m n h, lt-ltb g n l)
+
+    pub settled-none : n ≤ m → n ≤ g → settled shut free m g ≡ unmapped (a + n) shut free
+    settled-none h l = simp (le-ltb m n h, le-ltb g n l)
+
+  -- once a free frame is known, it is settled by the page's word alone
+  none-taken : (i : ℕ) → i ≤ n → lowestFrom (isTaken noLane) i n ≡ n
+  none-taken i l =
+      sought-past (isTaken noLane) i n n l (le-refl n) (λ m low high. simp (none-open (a + m), and-false))
+      ∙ sought-end (isTaken noLane) n n (le-refl n)
+
+  free-known : (shut : List ℕ) (free m g i : ℕ) → g < n → i ≤ n → settled noLane (a + g + 1) m (lowestFrom (isTaken noLane) i n) ≡ settled shut free m g
+  free-known shut free m g i l h =
+      below-or-not m n
+      (λ k. settled-word noLane (a + g + 1) m _ k ∙ sym (settled-word shut free m g k))
+      (λ k.
+      settled-none noLane (a + g + 1) m _ k (omega (arith, none-taken i h)) ∙ sym (settled-free shut free m g k l))
+
+  resumed : (r i : ℕ) (shut : List ℕ) (free : ℕ) → i + r ≡ n → takeAll (unmapped (a + i) shut free) (drop i xs) ≡ settled shut free (lowestFrom isWord i n) (lowestFrom (isTaken shut) i n)
+  unfolding takeAll
+  resumed zero i shut free e =
+      let all : n ≤ i = omega arith in
+      let same : i ≡ n = omega arith in
+      rw (drop-of-length-le xs all, sought-end isWord i n all, sought-end (isTaken shut) i n all, same)
+      (sym (settled-none shut free n n (le-refl n) (le-refl n)))
+  resumed (suc r) i shut free e =
+      let l : i < n = omega arith in
+      let next : a + i + 1 ≡ a + (i + 1) = omega arith in
+      one-more i (unmapped (a + i) shut free) l
+      ∙ cases (isWord i)
+      (λ w.
+      rw (by-word i shut free w, sought-hit isWord i n l w)
+      (known-stays (found (a + i + 1)) (drop (i + 1) xs) (omega arith) ∙ sym (settled-word shut free i _ l)))
+      (λ w.
+      cases (isTaken shut i)
+      (λ o.
+      rw (by-free i shut free w o, sought-miss isWord i n l w, sought-hit (isTaken shut) i n l o, next)
+      (resumed r (i + 1) noLane (a + (i + 1)) (omega arith) ∙ rw (← next) (free-known shut free _ i (i + 1) l (omega arith))))
+      (λ o.
+      rw (by-other i shut free w o, sought-miss isWord i n l w, sought-miss (isTaken shut) i n l o, next)
+      (resumed r (i + 1) shut free (omega arith))))
+
+  pub in-the-end : (shut : List ℕ) (free : ℕ) → takeAll (unmapped a shut free) xs ≡ settled shut free (lowest isWord n) (lowest (isTaken shut) n)
+  in-the-end shut free = let same : a ≡ a + 0 = omega arith in ap (λ (f : ℕ). takeAll (unmapped f shut free) xs) same ∙ resumed n 0 shut free (omega arith)
+
+  -- where the page's word has not come, all words were taken in
+  pub not-come : (shut : List ℕ) (free : ℕ) → takeAll (unmapped a shut free) xs .mapped ≡ 0 → takeAll (unmapped a shut free) xs ≡ unmapped (a + n) (takeAll (unmapped a shut free) xs .shut) (takeAll (unmapped a shut free) xs .free)
+  not-come shut free e =
+      let m : ℕ = lowest isWord n in
+      let g : ℕ = lowest (isTaken shut) n in
+      rw (in-the-end shut free)
+      (below-or-not m n
+      (λ l. absurd (never m (sym (ap (λ (k : Kept). k .mapped) (in-the-end shut free ∙ settled-word shut free m g l)) ∙ e)))
+      (λ h.
+      below-or-not g n
+      (λ l. rw (le-ltb m n h, lt-ltb g n l) refl)
+      (λ l. rw (le-ltb m n h, le-ltb g n l) refl)))
+    where
+      never : (i : ℕ) → a + i + 1 ≡ 0 → ⊥
+      never i z = lt-irrefl 0 (omega arith)
+
+  -- the frames known are among those passed, and the word sought stays
+  pub record Sound (k : Kept) : Type 0 where
+    pub same-word : k .word ≡ w
+    pub mapped-below : k .mapped ≤ a + n
+    pub free-below : k .free ≤ a + n
+
+  pub sound : (shut : List ℕ) → Sound (takeAll (unmapped a shut 0) xs)
+  sound shut =
+      let m : ℕ = lowest isWord n in
+      let g : ℕ = lowest (isTaken shut) n in
+      rw (in-the-end shut 0)
+      (below-or-not m n
+      (λ l. rw (lt-ltb m n l) (record { same-word = refl; mapped-below = omega arith; free-below = omega arith }))
+      (λ h.
+      below-or-not g n
+      (λ l. rw (le-ltb m n h, lt-ltb g n l) (record { same-word = refl; mapped-below = omega arith; free-below = omega arith }))
+      (λ l. rw (le-ltb m n h, le-ltb g n l) (record { same-word = refl; mapped-below = omega arith; free-below = omega arith }))))

@@ -1,0 +1,146 @@
+-- The theorem of document 02, No. 2: the numbers kept after any first part of the table, with the words after it, give the fault's answer and the
+-- frame that gets the word.
+use Prim.Native.Nat.{ℕ, _+_, _-_, _<_, _≤_}
+use native.Mathlib.Omega.{arith}
+use mathlib.Core.Bool.{Bool, true, _&&_}
+use mathlib.Core.List.{List, [], _∷_, _++_}
+use mathlib.Core.Path.{_≡_, refl, sym, ap, ap₂, _∙_}
+use lib.Dec.{eqb, ltb}
+use lib.ListN.{length, getD, set}
+use borrow.Author.Tests.{lt-ltb, le-ltb}
+use Rattle.lists.specs.Range.{upto, keep, lowest, isEmpty}
+use Rattle.lists.proofs.Split.{below-or-not}
+use Rattle.lists.proofs.Found.{kept-found, kept-missed}
+use Rattle.lists.proofs.Same.{same-lowest}
+use Rattle.refusal.specs.Reply.{Answers, Refuses, test, unless, passes}
+use Rattle.refusal.proofs.Replies.{passed-answers}
+use Rattle.refusal.proofs.Order.{passed-earlier}
+use Rattle.board.specs.declared.Board.{Board}
+use Rattle.board.specs.Tests.{activeSet, callTests, callReply}
+use Rattle.board.proofs.Passed.{Accepted, accepted}
+use Rattle.calls.specs.Table.{State, stateOf, wordOf, inSet, hasWord, isFree, framesWith, mappedTo, isChoice, choices}
+use Rattle.calls.specs.Calls.{Outcome, Old, New, settle, pageTest, pageTests, written, faultDone, fault}
+use Rattle.calls.proofs.Settled.{ten-passed}
+use Rattle.pass.specs.declared.Kept.{Kept}
+use Rattle.pass.specs.Kept.{isOpen, lanesOf, noLane, start, takeAll, after, answerOf, tableOf, outcomeOf}
+use Rattle.pass.proofs.Closed.{found, unmapped, settled, settled-word, settled-free, settled-none, isTaken, take-append, in-the-end, Sound, sound}
+use Rattle.pass.proofs.Lanes.{lane-is-open}
+
+module _ (b : Board) (d p : ℕ) (t : List ℕ) (ok : passes (pageTests b (length t) d p) ≡ true) where
+  abbrev s : State
+  s = stateOf b t
+
+  abbrev n : ℕ
+  n = length t
+
+  abbrev w : ℕ
+  w = wordOf d p
+
+  fine : Accepted b n d
+  unfolding callReply
+  fine = accepted b n d (passed-answers (callTests b n d) (tt {0}) (passed-earlier (callTests b n d) (pageTest p ∷ []) ok))
+
+  abbrev holds : ℕ → Bool
+  holds = hasWord t w
+
+  abbrev free : ℕ → Bool
+  free = isFree t (b .colours) (activeSet b d)
+
+  abbrev faulted : List ℕ → List ℕ → Outcome
+  faulted fs gs = settle s (unless (test 12 (isEmpty fs && isEmpty gs) ∷ []) (faultDone s w fs gs))
+
+  mapped-is : mappedTo s d p ≡ keep holds (upto n)
+  unfolding mappedTo framesWith
+  mapped-is = rw (fine .bounds .long)
+
+  choices-is : choices s d (activeSet b d) ≡ keep free (upto n)
+  unfolding choices isChoice framesWith
+  choices-is = rw (fine .bounds .long)
+
+  fault-is : fault s d p ≡ faulted (keep holds (upto n)) (keep free (upto n))
+  unfolding fault
+  fault-is =
+      ten-passed s d p (test 12 (isEmpty (mappedTo s d p) && isEmpty (choices s d (activeSet b d))) ∷ [])
+      (faultDone s w (mappedTo s d p) (choices s d (activeSet b d))) ok
+      ∙ ap₂ faulted mapped-is choices-is
+
+  -- the fault's outcome, by what is kept
+  abbrev given : Kept → Outcome
+  given k = record { reply = answerOf k; moves = []; next = stateOf b (tableOf k t) }
+
+  abbrev m : ℕ
+  m = lowest holds n
+
+  abbrev g : ℕ
+  g = lowest free n
+
+  -- frames are kept as 1 and their numbers
+  module _ (f : ℕ) where
+    there : ltb 0 (0 + f + 1) ≡ true
+    there = lt-ltb 0 (0 + f + 1) (omega arith)
+
+    number : 0 + f + 1 - 1 ≡ f
+    number = omega arith
+
+  by-word : m < n → given (found w 0 t (0 + m + 1)) ≡ fault s d p
+  unfolding answerOf tableOf unless settle
+  by-word l = simp (there m, number m) (sym (fault-is ∙ ap (λ (fs : List ℕ). faulted fs (keep free (upto n))) (kept-found holds n l)))
+
+  by-free : n ≤ m → g < n → given (unmapped w 0 t (0 + n) noLane (0 + g + 1)) ≡ fault s d p
+  unfolding answerOf tableOf unless settle
+  by-free h l = simp (there g, number g) (sym (fault-is ∙ ap₂ faulted (kept-missed holds n h) (kept-found free n l)))
+
+  by-none : n ≤ m → n ≤ g → given (unmapped w 0 t (0 + n) (lanesOf (b .colours) (activeSet b d)) 0) ≡ fault s d p
+  unfolding answerOf tableOf unless settle
+  by-none h l = sym (fault-is ∙ ap₂ faulted (kept-missed holds n h) (kept-missed free n l))
+
+  abbrev lanes : List ℕ
+  lanes = lanesOf (b .colours) (activeSet b d)
+
+  -- an open lane is one with an active colour
+  free-in-lane : lowest (isTaken w 0 t lanes) n ≡ g
+  free-in-lane =
+      same-lowest (isTaken w 0 t lanes) free n
+      (λ f l. ap (λ (o : Bool). eqb (getD t f 0) 0 && o) (lane-is-open (b .colours) (activeSet b d) (0 + f) (fine .passed .count) ∙ ap (inSet (b .colours) (activeSet b d)) (omega arith)))
+
+  by-case : given (settled w 0 t lanes 0 m g) ≡ fault s d p
+  by-case =
+      below-or-not m n
+      (λ l. ap given (settled-word w 0 t lanes 0 m g l) ∙ by-word l)
+      (λ h.
+      below-or-not g n
+      (λ l. ap given (settled-free w 0 t lanes 0 m g h l) ∙ by-free h l)
+      (λ l. ap given (settled-none w 0 t lanes 0 m g h l) ∙ by-none h l))
+
+  -- all words taken in
+  pub whole-pass : given (after b d p t) ≡ fault s d p
+  unfolding after start
+  whole-pass =
+      ap given (in-the-end w 0 t lanes 0 ∙ ap (settled w 0 t lanes 0 m) free-in-lane)
+      ∙ by-case
+
+  -- the first part xs, the words bs of the block under way, and the words ys after them
+  pub one-pass : (xs bs ys : List ℕ) → t ≡ xs ++ (bs ++ ys) → fault s d p ≡ outcomeOf b t (after b d p xs) (bs ++ ys)
+  unfolding after outcomeOf
+  one-pass xs bs ys e =
+      sym whole-pass ∙ ap given (ap (after b d p) e ∙ take-append (start w lanes) xs (bs ++ ys))
+
+  -- the outcome, by what is known in the end
+  abbrev pub end : Kept
+  end = after b d p t
+
+  pub end-sound : Sound w 0 t end
+  unfolding after start
+  end-sound = sound w 0 t lanes
+
+  pub old-frame : 0 < end .mapped → fault s d p ≡ record { reply = Answers (Old (end .mapped - 1)); moves = []; next = s }
+  unfolding answerOf tableOf
+  old-frame l = sym whole-pass ∙ simp (lt-ltb 0 (end .mapped) l)
+
+  pub new-frame : end .mapped ≤ 0 → 0 < end .free → fault s d p ≡ record { reply = Answers (New (end .free - 1)); moves = []; next = written s (end .free - 1) w }
+  unfolding answerOf tableOf
+  new-frame h l = sym whole-pass ∙ simp (le-ltb 0 (end .mapped) h, lt-ltb 0 (end .free) l, end-sound .same-word)
+
+  pub no-frame : end .mapped ≤ 0 → end .free ≤ 0 → fault s d p ≡ record { reply = Refuses 12 0; moves = []; next = s }
+  unfolding answerOf tableOf
+  no-frame h l = sym whole-pass ∙ simp (le-ltb 0 (end .mapped) h, le-ltb 0 (end .free) l)

@@ -1,0 +1,74 @@
+-- `pass::block::settle` meets its contract, by the lanes that it finds (`Blocks`).
+use native.Mathlib.Omega.{arith}
+use mathlib.Core.Path.{_≡_}
+use lib.ListN.{length}
+use borrow.Author.Needs.{needs}
+use Rattle.pass.specs.Kept.{noLane}
+use Rattle.pass.proofs.Blocks.{front-word, front-open, front-neither}
+use Rattle.pass.proofs.block.settle.Statement.{statement}
+use Rattle.pass.proofs.block.settle.Tie as tie
+
+-- earlier places of the code: the entry, and the search for the word
+abbrev entry : tie.After-word-lane → tie.Start
+entry c = c .before .before
+
+abbrev searched : tie.After-open-lane → tie.After-word-lane
+searched c = c .before .before .before
+
+size : (s : tie.Start) → length (s .args .block) ≡ 16
+size s = search needs
+
+word-lane-requires : tie.Need-word-lane-requires
+word-lane-requires c κs = search needs
+
+add-found : tie.Need-add-found
+add-found c = search needs
+
+add-found-2 : tie.Need-add-found-2
+add-found-2 c = search needs
+
+returns : tie.Need-returns
+unfolding noLane
+returns c =
+    let s = entry (c .before .before) in
+    front-word (s .args .kept) (s .args .block) (s .args .filled) (s .pre) (size s) _ (c .before .before .word-lane .ensures) (omega arith)
+
+add-taken : tie.Need-add-taken
+add-taken c = search needs
+
+open-lane-requires : tie.Need-open-lane-requires
+open-lane-requires c κs = search needs
+
+add-t12 : tie.Need-add-t12
+add-t12 c = search needs
+
+add-t13 : tie.Need-add-t13
+add-t13 c = search needs
+
+returns-2 : tie.Need-returns-2
+unfolding noLane
+returns-2 c =
+    let o = c .before .before in
+    let s = entry (searched o) in
+    front-open (s .args .kept) (s .args .block) (s .args .filled) (s .pre) (size s) _ (searched o .word-lane .ensures) _ (o .open-lane .ensures) (omega arith) (omega arith)
+
+returns-3 : tie.Need-returns-3
+returns-3 c =
+    let o = c .before in
+    let s = entry (searched o) in
+    front-neither (s .args .kept) (s .args .block) (s .args .filled) (s .pre) (size s) _ (searched o .word-lane .ensures) _ (o .open-lane .ensures) (omega arith) (omega arith)
+
+pub settle-spec : {M : Type 1} → statement M
+settle-spec =
+    tie.close
+    (tie.spec
+    word-lane-requires
+    add-found
+    add-found-2
+    returns
+    add-taken
+    open-lane-requires
+    add-t12
+    add-t13
+    returns-2
+    returns-3)

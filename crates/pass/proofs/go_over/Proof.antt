@@ -1,0 +1,150 @@
+-- `pass::go_over` meets its contract, by the laws of a pass under way (`Going`).
+use Prim.Native.Nat.{ℕ, _-_}
+use native.Mathlib.Omega.{arith}
+use native.Mathlib.Nat.{le-refl}
+use mathlib.Core.List.{List}
+use mathlib.Core.Logic.{⊎-elim}
+use mathlib.Core.Path.{_≡_, refl, sym, ap₂, _∙_}
+use lib.ListN.{length, take, length-take, length-drop}
+use Rattle.pass.specs.declared.Kept.{Kept}
+use Rattle.pass.specs.Kept.{takeAll}
+use Rattle.pass.specs.Steps.{AtBlock}
+use Rattle.pass.proofs.Going.{Going, kept, block, long, at-start, at-rest, past-it, ends, goes-on, read-back}
+use Rattle.pass.proofs.go_over.Statement.{statement}
+use Rattle.pass.proofs.go_over.Tie as tie
+
+abbrev Inv-loop : tie.InvT-loop
+Inv-loop table word lanes₀ free₀ taken₀ lanes free taken = Going table word lanes₀ lanes free taken
+
+abbrev μ-loop : tie.MeasureT-loop
+μ-loop table word lanes₀ free₀ taken₀ lanes free taken = length table - taken
+
+-- the places: the entry, the turn of the loop, and the turn after its first call
+abbrev entry : tie.In-loop Inv-loop μ-loop → tie.Start Inv-loop μ-loop
+entry c = c .before .before .before
+
+abbrev turn : tie.After-block Inv-loop μ-loop → tie.In-loop Inv-loop μ-loop
+turn c = c .before .before .before
+
+abbrev read : tie.After-take-in Inv-loop μ-loop → tie.In-loop Inv-loop μ-loop
+read c = turn (c .before)
+
+-- what is kept in a turn, and the words of its block
+abbrev here : tie.In-loop Inv-loop μ-loop → Kept
+here c = let h = c .before .loop in kept (entry c .args .table .now) (entry c .args .word) (entry c .args .shut) (h .lanes) (h .free) (h .taken)
+
+abbrev words : tie.In-loop Inv-loop μ-loop → List ℕ
+words c = block (entry c .args .table .now) (entry c .args .word) (entry c .args .shut) (c .before .loop .inv) (c .loop-test .taken)
+
+sixteen : (c : tie.In-loop Inv-loop μ-loop) → length (words c) ≡ 16
+sixteen c = long (entry c .args .table .now) (entry c .args .word) (entry c .args .shut) (c .before .loop .inv) (c .loop-test .taken)
+
+-- those read stand in front of the block that is looked through
+looked-through :
+    (c : tie.After-take-in Inv-loop μ-loop) (k : Kept)
+    → k ≡ takeAll (here (read c)) (take 16 (c .take-in .last .1 .1 .1 .0))
+    → k ≡ takeAll (here (read c)) (words (read c))
+looked-through c k e =
+    e
+    ∙ ap₂ (λ (n : ℕ) (bs : List ℕ). takeAll (here (read c)) (take n bs)) (sym (sixteen (read c))) (c .take-in .ensures .1)
+    ∙ read-back (here (read c)) (words (read c)) _
+
+loop-holds : tie.Need-loop-holds Inv-loop μ-loop
+loop-holds c = at-start _ _ _
+
+sub-loop : tie.Need-sub-loop Inv-loop μ-loop
+sub-loop c = omega arith
+
+add-take-in : tie.Need-add-take-in Inv-loop μ-loop
+add-take-in c = omega arith
+
+mul-take-in : tie.Need-mul-take-in Inv-loop μ-loop
+mul-take-in c = omega arith
+
+sub-take-in : tie.Need-sub-take-in Inv-loop μ-loop
+sub-take-in c = omega arith
+
+part-take-in-start : tie.Need-part-take-in-start Inv-loop μ-loop
+part-take-in-start c = omega arith
+
+part-take-in-end : tie.Need-part-take-in-end Inv-loop μ-loop
+part-take-in-end c = omega arith
+
+take-in-requires : tie.Need-take-in-requires Inv-loop μ-loop
+take-in-requires c κs = (omega (arith, sixteen (turn c)), refl)
+
+settle-requires : tie.Need-settle-requires Inv-loop μ-loop
+settle-requires c κs =
+    let h = turn (c .before .before) .before .loop in
+    record { aligned = h .inv .aligned; few = le-refl 16; unmapped = refl; counted = omega arith }
+
+returns : tie.Need-returns Inv-loop μ-loop
+returns c =
+    let d = c .before .before .before .before in
+    let s = entry (read d) in
+    ends (s .args .table .now) (s .args .word) (s .args .shut) (read d .before .loop .inv) (read d .loop-test .taken) _ (looked-through d _ (c .before .before .settle .ensures)) (c .if2 .taken)
+
+add-taken : tie.Need-add-taken Inv-loop μ-loop
+add-taken c = omega arith
+
+loop-less : tie.Need-loop-less Inv-loop μ-loop
+loop-less c = omega arith
+
+loop-again : tie.Need-loop-again Inv-loop μ-loop
+loop-again c =
+    let d = c .before in
+    let s = entry (read d) in
+    let h = read d .before .loop in
+    let at : AtBlock (here (read d)) (length (words (read d))) = record { aligned = h .inv .aligned; few = omega (arith, sixteen (read d)); unmapped = refl; counted = omega (arith, sixteen (read d)) } in
+    ⊎-elim
+    (λ w. rw (w .5, w .6) (goes-on (s .args .table .now) (s .args .word) (s .args .shut) (h .inv) (read d .loop-test .taken) (w .1 .result) (looked-through d _ (w .1 .ensures)) (w .3 .left)))
+    (λ w. rw (w .1, w .2) (past-it (s .args .table .now) (s .args .word) (s .args .shut) (h .inv) (read d .loop-test .taken) at (sym (d .take-in .ensures .0) ∙ w .0 .left)))
+    (c .if1 .came)
+
+mul-finish : tie.Need-mul-finish Inv-loop μ-loop
+mul-finish c = omega arith
+
+sub-finish : tie.Need-sub-finish Inv-loop μ-loop
+sub-finish c = omega arith
+
+part-finish-start : tie.Need-part-finish-start Inv-loop μ-loop
+part-finish-start c = omega arith
+
+part-finish-end : tie.Need-part-finish-end Inv-loop μ-loop
+part-finish-end c = omega arith
+
+finish-requires : tie.Need-finish-requires Inv-loop μ-loop
+finish-requires c κs =
+    let h = c .before .before .loop in
+    record { aligned = h .inv .aligned; few = simp (length-take, length-drop) (omega arith); unmapped = refl; counted = simp (length-take, length-drop) (omega arith) }
+
+returns-2 : tie.Need-returns-2 Inv-loop μ-loop
+returns-2 c =
+    let s = c .before .before .before .before .before in
+    c .finish .ensures ∙ sym (at-rest (s .args .table .now) (s .args .word) (s .args .shut) (c .before .before .before .loop .inv) _ refl)
+
+pub go-over-spec : {M : Type 1} → statement M
+go-over-spec =
+    tie.close
+    (tie.spec
+    Inv-loop
+    μ-loop
+    loop-holds
+    sub-loop
+    add-take-in
+    mul-take-in
+    sub-take-in
+    part-take-in-start
+    part-take-in-end
+    take-in-requires
+    settle-requires
+    returns
+    add-taken
+    loop-less
+    loop-again
+    mul-finish
+    sub-finish
+    part-finish-start
+    part-finish-end
+    finish-requires
+    returns-2)

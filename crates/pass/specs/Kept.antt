@@ -1,0 +1,72 @@
+-- What a fault keeps while it takes in the words of the frame table, one after another: document 02, No. 2. `Kept` is the struct of the code. A
+-- frame that is known stands in it as 1 and its number, and 0 says that none is.
+use Prim.Native.Nat.{ℕ, _+_, _-_, _%_}
+use mathlib.Core.Bool.{Bool, _&&_}
+use mathlib.Core.List.{List, [], _∷_, _++_, map}
+use lib.Dec.{eqb, ltb}
+use lib.ListN.{getD, set, replicate}
+use Rattle.lists.specs.Choice.{if_then_else_}
+use Rattle.lists.specs.Range.{upto}
+use Rattle.refusal.specs.Reply.{Reply, Answers, Refuses}
+use Rattle.board.specs.declared.Board.{Board}
+use Rattle.board.specs.Tests.{activeSet}
+use Rattle.calls.specs.Table.{stateOf, wordOf, inSet}
+use Rattle.calls.specs.Calls.{Answer, Outcome, Old, New}
+use Rattle.pass.specs.declared.Kept.{Kept}
+
+-- Sixteen lanes: that of frame f is f modulo 16. N divides 16, so that the frames of a lane have one colour. A lane with 0 is open: a free frame in it
+-- would be taken.
+abbrev pub isOpen : List ℕ → ℕ → Bool
+isOpen shut f = eqb (getD shut (f % 16) 0) 0
+
+-- the lanes of the colours, of n, in set c are open
+unfoldable pub lanesOf : ℕ → ℕ → List ℕ
+lanesOf n c = map (λ (i : ℕ). if inSet n c i then 0 else 1) (upto 16)
+
+-- no lane is open
+unfoldable pub noLane : List ℕ
+noLane = replicate 16 1
+
+-- before the first word: the page's word, and the lanes of the active set
+unfoldable pub start : ℕ → List ℕ → Kept
+start w shut = record { word = w; shut = shut; taken = 0; mapped = 0; free = 0 }
+
+-- one word more
+abbrev pub onwards : Kept → List ℕ → ℕ → ℕ → Kept
+onwards k shut mapped free = record { word = k .word; shut = shut; taken = k .taken + 1; mapped = mapped; free = free }
+
+-- Taking in word x, that of frame `taken`. Once the page's frame is known nothing changes any more; x is the page's word: the frame is known, and no
+-- other is wanted; the frame is free, in an open lane: it will be taken unless the page's word comes, and no other is; else all stays as it was
+unfoldable pub takeIn : Kept → ℕ → Kept
+takeIn k x =
+    if ltb 0 (k .mapped) then k
+    else if eqb x (k .word) then onwards k noLane (k .taken + 1) 0
+    else if eqb x 0 && isOpen (k .shut) (k .taken) then onwards k noLane 0 (k .taken + 1)
+    else onwards k (k .shut) 0 (k .free)
+
+unfoldable pub takeAll : Kept → List ℕ → Kept
+takeAll k [] = k
+takeAll k (x ∷ xs) = takeAll (takeIn k x) xs
+
+-- what is kept after the first words of a table, in a fault of domain d for page p
+unfoldable pub after : Board → ℕ → ℕ → List ℕ → Kept
+after b d p xs = takeAll (start (wordOf d p) (lanesOf (b .colours) (activeSet b d))) xs
+
+-- what it gives when no word is left: the page's frame, else the free frame, else refusal 12
+unfoldable pub answerOf : Kept → Reply Answer
+answerOf k =
+    if ltb 0 (k .mapped) then Answers (Old (k .mapped - 1)) else if ltb 0 (k .free) then Answers (New (k .free - 1)) else Refuses 12 0
+
+-- the table afterwards: the free frame gets the word, unless the page has a frame
+unfoldable pub tableOf : Kept → List ℕ → List ℕ
+tableOf k t = if ltb 0 (k .mapped) then t else if ltb 0 (k .free) then set t (k .free - 1) (k .word) else t
+
+-- the fault's outcome by the numbers kept and the words still to come; the board and the table are only handed on
+unfoldable pub outcomeOf : Board → List ℕ → Kept → List ℕ → Outcome
+outcomeOf b t k xs =
+    let end = takeAll k xs in
+    record { reply = answerOf end; moves = []; next = stateOf b (tableOf end t) }
+
+-- all numbers kept between two words: those of the record, and the words of the block under way
+unfoldable pub numbers : Kept → List ℕ → List ℕ
+numbers k block = k .word ∷ k .taken ∷ k .mapped ∷ k .free ∷ (k .shut ++ block)

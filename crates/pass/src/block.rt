@@ -1,0 +1,118 @@
+// A block of at most sixteen frames. Its words are read into an array, and whether one of them matters is
+// found on the way, all lanes alike, so that the compiler compares them at once. Only where one does is the
+// array looked through, and not the table again.
+ghost use mathlib.Core.Path.{_≡_};
+ghost use mathlib.Core.Bool.{_&&_};
+ghost use mathlib.Core.List.{_++_};
+ghost use Prim.Native.Nat.{ℕ, _≤_};
+ghost use lib.Dec.{eqb};
+ghost use lib.ListN.{length, getD, take, drop};
+ghost use Rattle.lists.specs.Range.{upto, any, lowest};
+ghost use Rattle.pass.specs.Kept.{takeAll};
+ghost use Rattle.pass.specs.Steps.{matters, AtBlock};
+use crate::Kept;
+
+// Reads the words, and says whether one of them is the page's, or is that of a free frame in an open lane.
+// This is the one place where a fault reads the table.
+pub(crate) fn take_in(words: &[u16], word: u16, shut: &[u16; 16], block: &mut [u16; 16]) -> bool
+    requires { ⌜ (length (now words) ≤ 16) × (16 ≡ length (now block)) ⌝ }
+    ensures { λ r. ⌜ r ≡ any (matters (now (words .entry)) word (now (shut .entry))) (upto (length (now (words .entry)))) ⌝ }
+    ensures { λ r. ⌜ now (block .exit) ≡ now (words .entry) ++ drop (length (now (words .entry))) (now (block .entry)) ⌝ }
+{
+    let mut found = false;
+    let mut i: usize = 0;
+    while i < words.len() {
+        let held = words[i];
+        block[i] = held;
+        found = found | (held == word) | ((held == 0) & (shut[i] == 0));
+        i += 1;
+    }
+    found
+}
+
+// The lowest lane of a block with a word.
+fn word_lane(block: [u16; 16], filled: usize, word: u16) -> usize
+    requires { ⌜ filled ≤ 16 ⌝ }
+    ensures { λ r. ⌜ r ≡ lowest (λ (i : ℕ). eqb (getD block i 0) word) filled ⌝ }
+{
+    let mut i: usize = 0;
+    while i < filled {
+        if block[i] == word {
+            return i;
+        }
+        i += 1;
+    }
+    i
+}
+
+// The lowest open lane of a block with a free frame.
+fn open_lane(block: [u16; 16], filled: usize, shut: [u16; 16]) -> usize
+    requires { ⌜ filled ≤ 16 ⌝ }
+    ensures { λ r. ⌜ r ≡ lowest (λ (i : ℕ). eqb (getD block i 0) 0 && eqb (getD shut i 0) 0) filled ⌝ }
+{
+    let mut i: usize = 0;
+    while i < filled {
+        if (block[i] == 0) & (shut[i] == 0) {
+            return i;
+        }
+        i += 1;
+    }
+    i
+}
+
+// What is kept after the words of a block, which is looked through.
+pub(crate) fn settle(kept: Kept, block: [u16; 16], filled: usize) -> Kept
+    requires { ⌜ AtBlock kept filled ⌝ }
+    ensures { λ r. ⌜ r ≡ takeAll kept (take filled block) ⌝ }
+{
+    let shut = kept.shut;
+    let none = [1u16; 16];
+    let lane = word_lane(block, filled, kept.word);
+    if lane < filled {
+        let found = kept.taken + lane + 1;
+        return Kept {
+            word: kept.word,
+            shut: none,
+            taken: found,
+            mapped: found,
+            free: 0,
+        };
+    }
+    let taken = kept.taken + filled;
+    let open = open_lane(block, filled, shut);
+    if open < filled {
+        return Kept {
+            word: kept.word,
+            shut: none,
+            taken,
+            mapped: 0,
+            free: kept.taken + open + 1,
+        };
+    }
+    Kept {
+        word: kept.word,
+        shut,
+        taken,
+        mapped: 0,
+        free: kept.free,
+    }
+}
+
+// What is kept after the last words, which are fewer than sixteen.
+pub(crate) fn finish(kept: Kept, words: &[u16]) -> Kept
+    requires { ⌜ AtBlock kept (length (now words)) ⌝ }
+    ensures { λ r. ⌜ r ≡ takeAll kept (now (words .entry)) ⌝ }
+{
+    let shut = kept.shut;
+    let mut block = [0u16; 16];
+    if take_in(words, kept.word, &shut, &mut block) {
+        return settle(kept, block, words.len());
+    }
+    Kept {
+        word: kept.word,
+        shut,
+        taken: kept.taken + words.len(),
+        mapped: 0,
+        free: kept.free,
+    }
+}
