@@ -7,6 +7,7 @@ use Rattle.colours.proofs.Theorems as colour
 use Rattle.calls.specs.Table.{choices}
 use Rattle.calls.proofs.Choice.{Chosen, chosen, choice-local}
 use Rattle.isolation.proofs.Theorems as history
+use Rattle.kept.proofs.OnePass as pass
 use Rattle.supply.proofs.Laws as law
 use Rattle.times.proofs.Planner as planner
 use Rattle.times.proofs.Added.{added-rows-change-nothing}
@@ -17,6 +18,7 @@ use Rattle.report.proofs.LongInputs.{first-bytes-tell}
 use Rattle.marshal.proofs.Lent as lent
 use Rattle.claims.specs.Colours.{ColourClaims}
 use Rattle.claims.specs.Histories.{HistoryClaims}
+use Rattle.claims.specs.OnePass.{OnePassClaims}
 use Rattle.claims.specs.Times.{SupplyClaims, TimeClaims}
 use Rattle.claims.specs.Reload.{ReloadClaims}
 use Rattle.claims.specs.Rounds.{RoundClaims}
@@ -59,6 +61,9 @@ history-claims =
           (r .below, r .free, r .inside);
       choice-local = choice-local;
     }
+
+one-pass-claims : OnePassClaims
+one-pass-claims = record { one-pass = pass.one-pass; few-numbers = pass.few-numbers }
 
 supply-claims : SupplyClaims
 supply-claims =
@@ -130,6 +135,7 @@ claims =
       domain-rule = history.the-domain-rule;
       histories = history-claims;
       looks = look-claims;
+      one-pass = one-pass-claims;
       supply = supply-claims;
       times = time-claims;
       reload = reload-claims;

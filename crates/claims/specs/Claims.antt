@@ -7,6 +7,7 @@ use Rattle.examples.specs.Table.{examples}
 use Rattle.claims.specs.Colours.{ColourClaims}
 use Rattle.claims.specs.Histories.{HistoryClaims}
 use Rattle.claims.specs.Looks.{LookClaims}
+use Rattle.claims.specs.OnePass.{OnePassClaims}
 use Rattle.claims.specs.Times.{SupplyClaims, TimeClaims}
 use Rattle.claims.specs.Reload.{ReloadClaims}
 use Rattle.claims.specs.Rounds.{RoundClaims}
@@ -21,6 +22,8 @@ pub record Claims : Type 0 where
   pub histories : HistoryClaims
   -- The rule is not vacuous: histories of which its sides are true, and others of which they are false.
   pub looks : LookClaims
+  -- A fault goes over the table once: document 02, No. 2.
+  pub one-pass : OnePassClaims
   -- The supply of a periodic resource, and what a planner relies on.
   pub supply : SupplyClaims
   pub times : TimeClaims

@@ -13,10 +13,10 @@ use Rattle.lists.specs.Range.{upto, any, lowest}
 use Rattle.lists.proofs.Split.{neither}
 use Rattle.lists.proofs.Found.{any-none, none-lowest}
 use Rattle.lists.proofs.Same.{same-lowest}
-use Rattle.pass.specs.declared.Kept.{Kept}
-use Rattle.pass.specs.Kept.{isOpen, noLane, takeAll}
+use Rattle.kept.specs.declared.Kept.{Kept}
+use Rattle.kept.specs.Kept.{isOpen, noLane, takeAll}
 use Rattle.pass.specs.Steps.{matters, AtBlock}
-use Rattle.pass.proofs.Closed.{found, unmapped, settled, settled-word, settled-free, settled-none, isWord, isTaken, in-the-end}
+use Rattle.kept.proofs.Closed.{found, unmapped, settled, settled-word, settled-free, settled-none, isWord, isTaken, in-the-end}
 
 -- the front of a block is searched like the block
 pub same-front : (p : ℕ → ℕ → Bool) (block : List ℕ) (filled : ℕ) → filled ≤ length block → lowest (λ (i : ℕ). p (getD block i 0) i) filled ≡ lowest (λ (i : ℕ). p (getD (take filled block) i 0) i) (length (take filled block))

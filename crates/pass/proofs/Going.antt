@@ -9,10 +9,10 @@ use mathlib.Core.Path.{_≡_, refl, sym, ap, _∙_}
 use lib.ListN.{length, take, drop, take-append-drop, length-drop}
 use lib.Seq.{take-all, take-append-seam, length-take-le, drop-drop}
 use Rattle.lists.specs.Range.{upto, any}
-use Rattle.pass.specs.declared.Kept.{Kept}
-use Rattle.pass.specs.Kept.{start, takeAll}
-use Rattle.pass.specs.Steps.{matters, AtBlock}
-use Rattle.pass.proofs.Closed.{known-stays, take-append, not-come}
+use Rattle.kept.specs.declared.Kept.{Kept}
+use Rattle.kept.specs.Kept.{start, takeAll}
+use Rattle.pass.specs.Steps.{matters, soFar, AtBlock}
+use Rattle.kept.proofs.Closed.{known-stays, take-append, not-come}
 use Rattle.pass.proofs.Blocks.{quiet}
 
 -- words that were read into an array stand in front of it
@@ -20,23 +20,24 @@ pub read-back : (k : Kept) (words rest : List ℕ) → takeAll k (take (length w
 read-back k words rest = ap (takeAll k) (take-append-seam words rest)
 
 module _ (t : List ℕ) (w : ℕ) (shut : List ℕ) where
-  abbrev pub kept : List ℕ → ℕ → ℕ → Kept
-  kept lanes free taken = record { word = w; shut = lanes; taken = taken; mapped = 0; free = free }
-
   pub record Going (lanes : List ℕ) (free taken : ℕ) : Type 0 where
     pub within : taken ≤ length t
     pub aligned : taken % 16 ≡ 0
-    pub ahead : takeAll (start w shut) t ≡ takeAll (kept lanes free taken) (drop taken t)
+    pub ahead : takeAll (start w shut) t ≡ takeAll (soFar w lanes taken free) (drop taken t)
 
   pub at-start : Going shut 0 0
   unfolding start
   at-start = record { within = omega arith; aligned = refl; ahead = refl }
 
+  -- the same, after as many words
+  pub on-to : {lanes : List ℕ} {free taken : ℕ} → Going lanes free taken → (next : ℕ) → next ≡ taken → Going lanes free next
+  on-to r next e = rw e r
+
   module _ {lanes : List ℕ} {free taken : ℕ} (r : Going lanes free taken) where
     -- the rest, of fewer than sixteen words
-    pub at-rest : (xs : List ℕ) → xs ≡ take (length t - taken) (drop taken t) → takeAll (start w shut) t ≡ takeAll (kept lanes free taken) xs
+    pub at-rest : (xs : List ℕ) → xs ≡ take (length t - taken) (drop taken t) → takeAll (start w shut) t ≡ takeAll (soFar w lanes taken free) xs
     at-rest xs e =
-        r .ahead ∙ ap (takeAll (kept lanes free taken)) (sym (e ∙ take-all (length t - taken) (drop taken t) (simp length-drop (le-refl (length t - taken)))))
+        r .ahead ∙ ap (takeAll (soFar w lanes taken free)) (sym (e ∙ take-all (length t - taken) (drop taken t) (simp length-drop (le-refl (length t - taken)))))
 
     -- a block of sixteen
     module _ (l : 16 ≤ length t - taken) where
@@ -49,36 +50,36 @@ module _ (t : List ℕ) (w : ℕ) (shut : List ℕ) where
       pub long : length block ≡ 16
       long = length-take-le (taken + 16 - taken) (drop taken t) (simp length-drop (omega arith)) ∙ sixteen
 
-      over : takeAll (start w shut) t ≡ takeAll (takeAll (kept lanes free taken) block) (drop (taken + 16) t)
+      over : takeAll (start w shut) t ≡ takeAll (takeAll (soFar w lanes taken free) block) (drop (taken + 16) t)
       over =
           let next : taken + (taken + 16 - taken) ≡ taken + 16 = omega arith in
           r .ahead
-          ∙ ap (takeAll (kept lanes free taken)) (sym (take-append-drop (taken + 16 - taken) (drop taken t)))
-          ∙ take-append (kept lanes free taken) block (drop (taken + 16 - taken) (drop taken t))
-          ∙ ap (takeAll (takeAll (kept lanes free taken) block)) (drop-drop (taken + 16 - taken) taken t ∙ ap (λ (i : ℕ). drop i t) next)
+          ∙ ap (takeAll (soFar w lanes taken free)) (sym (take-append-drop (taken + 16 - taken) (drop taken t)))
+          ∙ take-append (soFar w lanes taken free) block (drop (taken + 16 - taken) (drop taken t))
+          ∙ ap (takeAll (takeAll (soFar w lanes taken free) block)) (drop-drop (taken + 16 - taken) taken t ∙ ap (λ (i : ℕ). drop i t) next)
 
       after-it : taken + length block ≡ taken + 16
       after-it = omega (arith, long)
 
       -- no word of it matters
-      pub past-it : AtBlock (kept lanes free taken) (length block) → any (matters block w lanes) (upto (length block)) ≡ false → Going lanes free (taken + 16)
+      pub past-it : AtBlock (soFar w lanes taken free) (length block) → any (matters block w lanes) (upto (length block)) ≡ false → Going lanes free (taken + 16)
       past-it at e =
           record {
             within = omega (arith, r .within);
             aligned = omega (arith, r .aligned);
             ahead = over
-                ∙ ap (λ (k : Kept). takeAll k (drop (taken + 16) t)) (quiet (kept lanes free taken) block at e ∙ ap (kept lanes free) after-it);
+                ∙ ap (λ (k : Kept). takeAll k (drop (taken + 16) t)) (quiet (soFar w lanes taken free) block at e ∙ ap (λ (i : ℕ). soFar w lanes i free) after-it);
           }
 
       -- it was looked through
-      module _ (k : Kept) (is : k ≡ takeAll (kept lanes free taken) block) where
+      module _ (k : Kept) (is : k ≡ takeAll (soFar w lanes taken free) block) where
         pub ends : (k .mapped ≡ 0 → ⊥) → k ≡ takeAll (start w shut) t
         ends some = sym (over ∙ ap (λ (h : Kept). takeAll h (drop (taken + 16) t)) (sym is) ∙ known-stays k (drop (taken + 16) t) (pos-of-ne-zero some))
 
         pub goes-on : k .mapped ≡ 0 → Going (k .shut) (k .free) (taken + 16)
         goes-on none =
             let none-there = sym (ap (λ (h : Kept). h .mapped) is) ∙ none in
-            let all = not-come w taken block lanes free none-there ∙ ap (λ (h : Kept). kept (h .shut) (h .free) (taken + length block)) (sym is) ∙ ap (kept (k .shut) (k .free)) after-it in
+            let all = not-come w taken block lanes free none-there ∙ ap (λ (h : Kept). soFar w (h .shut) (taken + length block) (h .free)) (sym is) ∙ ap (λ (i : ℕ). soFar w (k .shut) i (k .free)) after-it in
             record {
               within = omega (arith, r .within);
               aligned = omega (arith, r .aligned);

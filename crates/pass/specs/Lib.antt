@@ -1,3 +1,2 @@
--- The definitions of `pass`: the numbers that a fault keeps, and what its code works out on its way.
-pub mod Kept
+-- What the code of `pass` works out on its way.
 pub mod Steps

@@ -5,11 +5,15 @@ use mathlib.Core.List.{List}
 use mathlib.Core.Path.{_≡_}
 use lib.Dec.{eqb}
 use lib.ListN.{getD, length}
-use Rattle.pass.specs.declared.Kept.{Kept}
+use Rattle.kept.specs.declared.Kept.{Kept}
 
 -- word i of a block is w, or is that of a free frame in an open lane
 abbrev pub matters : List ℕ → ℕ → List ℕ → ℕ → Bool
 matters xs w shut i = eqb (getD xs i 0) w || (eqb (getD xs i 0) 0 && eqb (getD shut i 0) 0)
+
+-- what is kept while the page's word has not come
+abbrev pub soFar : ℕ → List ℕ → ℕ → ℕ → Kept
+soFar w shut taken free = record { word = w; shut = shut; taken = taken; mapped = 0; free = free }
 
 -- a block of so many words is about to be taken in
 pub record AtBlock (k : Kept) (filled : ℕ) : Type 0 where

@@ -8,9 +8,9 @@ ghost use Prim.Native.Nat.{ℕ, _≤_};
 ghost use lib.Dec.{eqb};
 ghost use lib.ListN.{length, getD, take, drop};
 ghost use Rattle.lists.specs.Range.{upto, any, lowest};
-ghost use Rattle.pass.specs.Kept.{takeAll};
-ghost use Rattle.pass.specs.Steps.{matters, AtBlock};
-use crate::Kept;
+ghost use Rattle.kept.specs.Kept.{takeAll};
+ghost use Rattle.pass.specs.Steps.{matters, soFar, AtBlock};
+use kept::Kept;
 
 // Reads the words, and says whether one of them is the page's, or is that of a free frame in an open lane.
 // This is the one place where a fault reads the table.
@@ -60,42 +60,42 @@ fn open_lane(block: [u16; 16], filled: usize, shut: [u16; 16]) -> usize
     i
 }
 
+// What is kept while the page's word has not come.
+pub(crate) fn so_far(word: u16, shut: [u16; 16], taken: usize, free: usize) -> Kept
+    ensures { λ r. ⌜ r ≡ soFar word shut taken free ⌝ }
+{
+    Kept {
+        word,
+        shut,
+        taken,
+        mapped: 0,
+        free,
+    }
+}
+
 // What is kept after the words of a block, which is looked through.
 pub(crate) fn settle(kept: Kept, block: [u16; 16], filled: usize) -> Kept
     requires { ⌜ AtBlock kept filled ⌝ }
     ensures { λ r. ⌜ r ≡ takeAll kept (take filled block) ⌝ }
 {
-    let shut = kept.shut;
-    let none = [1u16; 16];
     let lane = word_lane(block, filled, kept.word);
     if lane < filled {
         let found = kept.taken + lane + 1;
         return Kept {
             word: kept.word,
-            shut: none,
+            shut: [1; 16],
             taken: found,
             mapped: found,
             free: 0,
         };
     }
+    let shut = kept.shut;
     let taken = kept.taken + filled;
     let open = open_lane(block, filled, shut);
     if open < filled {
-        return Kept {
-            word: kept.word,
-            shut: none,
-            taken,
-            mapped: 0,
-            free: kept.taken + open + 1,
-        };
+        return so_far(kept.word, [1; 16], taken, kept.taken + open + 1);
     }
-    Kept {
-        word: kept.word,
-        shut,
-        taken,
-        mapped: 0,
-        free: kept.free,
-    }
+    so_far(kept.word, shut, taken, kept.free)
 }
 
 // What is kept after the last words, which are fewer than sixteen.
@@ -108,11 +108,5 @@ pub(crate) fn finish(kept: Kept, words: &[u16]) -> Kept
     if take_in(words, kept.word, &shut, &mut block) {
         return settle(kept, block, words.len());
     }
-    Kept {
-        word: kept.word,
-        shut,
-        taken: kept.taken + words.len(),
-        mapped: 0,
-        free: kept.free,
-    }
+    so_far(kept.word, shut, kept.taken + words.len(), kept.free)
 }

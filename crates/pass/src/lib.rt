@@ -3,21 +3,12 @@
 mod block;
 
 ghost use mathlib.Core.Path.{_≡_};
-ghost use Rattle.pass.specs.Kept.{start, takeAll};
+ghost use Rattle.kept.specs.Kept.{start, takeAll};
 use crate::block::finish;
 use crate::block::settle;
+use crate::block::so_far;
 use crate::block::take_in;
-
-// The page's word; by lane, that is by a frame's number modulo sixteen, 0 where a free frame would be taken;
-// the number of words taken in; and the frame with the page's word and the free frame to take, each as 1
-// and its number, or 0 where none is known.
-pub struct Kept {
-    pub word: u16,
-    pub shut: [u16; 16],
-    pub taken: usize,
-    pub mapped: usize,
-    pub free: usize,
-}
+use kept::Kept;
 
 // What is kept when the words are over, or the page's word has come.
 pub fn go_over(table: &[u16], word: u16, shut: [u16; 16]) -> Kept
@@ -29,17 +20,7 @@ pub fn go_over(table: &[u16], word: u16, shut: [u16; 16]) -> Kept
     while 16 <= table.len() - taken {
         let mut block = [0u16; 16];
         if take_in(&table[taken..taken + 16], word, &lanes, &mut block) {
-            let kept = settle(
-                Kept {
-                    word,
-                    shut: lanes,
-                    taken,
-                    mapped: 0,
-                    free,
-                },
-                block,
-                16,
-            );
+            let kept = settle(so_far(word, lanes, taken, free), block, 16);
             if kept.mapped != 0 {
                 return kept;
             }
@@ -48,14 +29,5 @@ pub fn go_over(table: &[u16], word: u16, shut: [u16; 16]) -> Kept
         }
         taken += 16;
     }
-    finish(
-        Kept {
-            word,
-            shut: lanes,
-            taken,
-            mapped: 0,
-            free,
-        },
-        &table[taken..],
-    )
+    finish(so_far(word, lanes, taken, free), &table[taken..])
 }

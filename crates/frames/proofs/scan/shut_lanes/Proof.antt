@@ -8,8 +8,8 @@ use lib.ListN.{length, getD, take, drop, replicate, length-set}
 use lib.Seq.{take-all}
 use borrow.Author.Needs.{needs}
 use Rattle.lists.proofs.Written.{write-next}
-use Rattle.pass.specs.Kept.{lanesOf}
-use Rattle.pass.proofs.Lanes.{lanes-count, lane-is}
+use Rattle.kept.specs.Kept.{lanesOf}
+use Rattle.kept.proofs.Lanes.{lane-inside, lane-outside, lanes-count, lane-is}
 use Rattle.frames.proofs.scan.shut_lanes.Statement.{statement}
 use Rattle.frames.proofs.scan.shut_lanes.Tie as tie
 
@@ -31,8 +31,13 @@ lanes s = lanesOf (s .args .colours) (s .args .set)
 stored : (c : tie.Joined1 Inv-loop μ-loop) → c .before .before .before .loop .lane < 16 → c .if1 .shut ≡ getD (lanes (entry c)) (c .before .before .before .loop .lane) 0
 stored c l =
     let is = c .before .in-set .ensures in
-    ⊎-elim (λ w. w .1 ∙ sym (rw (sym is ∙ w .0 .taken))) (λ w. w .1 ∙ sym (rw (sym is ∙ w .0 .left))) (c .if1 .came)
-    ∙ sym (lane-is (entry c .args .colours) (entry c .args .set) (c .before .before .before .loop .lane) l)
+    let s = entry c in
+    let lane = c .before .before .before .loop .lane in
+    ⊎-elim
+    (λ w. w .1 ∙ sym (lane-inside (s .args .colours) (s .args .set) lane (sym is ∙ w .0 .taken)))
+    (λ w. w .1 ∙ sym (lane-outside (s .args .colours) (s .args .set) lane (sym is ∙ w .0 .left)))
+    (c .if1 .came)
+    ∙ sym (lane-is (s .args .colours) (s .args .set) lane l)
 
 loop-holds : tie.Need-loop-holds Inv-loop μ-loop
 loop-holds c = (omega arith, refl, refl)

@@ -5,7 +5,7 @@ use mathlib.Core.List.{List}
 use mathlib.Core.Path.{_≡_, sym, ap, _∙_}
 use lib.ListN.{length, take}
 use borrow.Author.Needs.{needs}
-use Rattle.pass.specs.Kept.{takeAll}
+use Rattle.kept.specs.Kept.{takeAll}
 use Rattle.pass.proofs.Blocks.{quiet}
 use Rattle.pass.proofs.Going.{read-back}
 use Rattle.pass.proofs.block.finish.Statement.{statement}
@@ -29,13 +29,18 @@ returns c =
     ∙ ap (λ (bs : List ℕ). takeAll (s .args .kept) (take (length t) bs)) (c .before .before .take-in .ensures .1)
     ∙ read-back (s .args .kept) t _
 
-add-t12 : tie.Need-add-t12
-add-t12 c = search needs
+add-so-far : tie.Need-add-so-far
+add-so-far c = search needs
+
+so-far-requires : tie.Need-so-far-requires
+so-far-requires c κs = search needs
 
 returns-2 : tie.Need-returns-2
 returns-2 c =
-    let s = entry (c .before .before) in
-    sym (quiet (s .args .kept) (s .args .words .now) (s .pre) (sym (c .before .before .take-in .ensures .0) ∙ c .before .if1 .left))
+    let d = c .before .before .before in
+    let s = entry d in
+    c .so-far .ensures
+    ∙ sym (quiet (s .args .kept) (s .args .words .now) (s .pre) (sym (d .take-in .ensures .0) ∙ c .before .before .if1 .left))
 
 pub finish-spec : {M : Type 1} → statement M
-finish-spec = tie.close (tie.spec take-in-requires settle-requires returns add-t12 returns-2)
+finish-spec = tie.close (tie.spec take-in-requires settle-requires returns add-so-far so-far-requires returns-2)

@@ -1,19 +1,19 @@
 -- `pass::block::settle` meets its contract, by the lanes that it finds (`Blocks`).
 use native.Mathlib.Omega.{arith}
-use mathlib.Core.Path.{_≡_}
+use mathlib.Core.Path.{_≡_, _∙_}
 use lib.ListN.{length}
 use borrow.Author.Needs.{needs}
-use Rattle.pass.specs.Kept.{noLane}
+use Rattle.kept.specs.Kept.{noLane}
 use Rattle.pass.proofs.Blocks.{front-word, front-open, front-neither}
 use Rattle.pass.proofs.block.settle.Statement.{statement}
 use Rattle.pass.proofs.block.settle.Tie as tie
 
 -- earlier places of the code: the entry, and the search for the word
 abbrev entry : tie.After-word-lane → tie.Start
-entry c = c .before .before
+entry c = c .before
 
 abbrev searched : tie.After-open-lane → tie.After-word-lane
-searched c = c .before .before .before
+searched c = c .before .before .before .before
 
 size : (s : tie.Start) → length (s .args .block) ≡ 16
 size s = search needs
@@ -39,24 +39,32 @@ add-taken c = search needs
 open-lane-requires : tie.Need-open-lane-requires
 open-lane-requires c κs = search needs
 
-add-t12 : tie.Need-add-t12
-add-t12 c = search needs
+add-so-far : tie.Need-add-so-far
+add-so-far c = search needs
 
-add-t13 : tie.Need-add-t13
-add-t13 c = search needs
+add-so-far-2 : tie.Need-add-so-far-2
+add-so-far-2 c = search needs
+
+so-far-requires : tie.Need-so-far-requires
+so-far-requires c κs = search needs
 
 returns-2 : tie.Need-returns-2
 unfolding noLane
 returns-2 c =
-    let o = c .before .before in
+    let o = c .before .before .before in
     let s = entry (searched o) in
-    front-open (s .args .kept) (s .args .block) (s .args .filled) (s .pre) (size s) _ (searched o .word-lane .ensures) _ (o .open-lane .ensures) (omega arith) (omega arith)
+    c .so-far .ensures
+    ∙ front-open (s .args .kept) (s .args .block) (s .args .filled) (s .pre) (size s) _ (searched o .word-lane .ensures) _ (o .open-lane .ensures) (omega arith) (omega arith)
+
+so-far-requires-2 : tie.Need-so-far-requires-2
+so-far-requires-2 c κs = search needs
 
 returns-3 : tie.Need-returns-3
 returns-3 c =
-    let o = c .before in
+    let o = c .before .before in
     let s = entry (searched o) in
-    front-neither (s .args .kept) (s .args .block) (s .args .filled) (s .pre) (size s) _ (searched o .word-lane .ensures) _ (o .open-lane .ensures) (omega arith) (omega arith)
+    c .so-far2 .ensures
+    ∙ front-neither (s .args .kept) (s .args .block) (s .args .filled) (s .pre) (size s) _ (searched o .word-lane .ensures) _ (o .open-lane .ensures) (omega arith) (omega arith)
 
 pub settle-spec : {M : Type 1} → statement M
 settle-spec =
@@ -68,7 +76,9 @@ settle-spec =
     returns
     add-taken
     open-lane-requires
-    add-t12
-    add-t13
+    add-so-far
+    add-so-far-2
+    so-far-requires
     returns-2
+    so-far-requires-2
     returns-3)

@@ -4,20 +4,20 @@ use Prim.Native.Nat.{ℕ, zero, suc, _+_, _%_, _<_, _≤_}
 use native.Mathlib.Nat.{le-refl, lt-irrefl, mod-lt}
 use native.Mathlib.Numerals.{add-one}
 use native.Mathlib.Omega.{arith}
-use mathlib.Core.Bool.{Bool, true, false, _&&_, and-true, and-false}
+use mathlib.Core.Bool.{Bool, true, false, _&&_, and-true, and-false, false≢true}
 use mathlib.Core.List.{List, [], _∷_, _++_}
 use mathlib.Core.Path.{_≡_, refl, sym, ap, ap₂, _∙_}
 use lib.Dec.{eqb, ltb}
 use lib.ListN.{length, getD, drop, getD-replicate, drop-of-length-le}
 use lib.Seq.{drop-cons}
-use borrow.Author.Tests.{lt-ltb, le-ltb}
+use borrow.Author.Tests.{lt-ltb, le-ltb, eqb-true, eqb-false, eq-eqb, ne-eqb}
 use Rattle.lists.specs.Choice.{if_then_else_}
-use Rattle.lists.specs.Range.{lowest, lowestFrom}
-use Rattle.lists.proofs.Split.{cases, below-or-not}
+use Rattle.lists.specs.Range.{any, lowest, lowestFrom}
+use Rattle.lists.proofs.Split.{cases, below-or-not, and-both}
 use Rattle.lists.proofs.Sought.{sought-hit, sought-miss, sought-end}
 use Rattle.lists.proofs.Found.{sought-past}
-use Rattle.pass.specs.declared.Kept.{Kept}
-use Rattle.pass.specs.Kept.{isOpen, noLane, onwards, takeIn, takeAll}
+use Rattle.kept.specs.declared.Kept.{Kept}
+use Rattle.kept.specs.Kept.{isOpen, noLane, onwards, takeIn, takeAll}
 
 -- nothing more is taken in once the page's frame is known
 pub known-stays : (k : Kept) (xs : List ℕ) → 0 < k .mapped → takeAll k xs ≡ k
@@ -60,20 +60,40 @@ module _ (w a : ℕ) (xs : List ℕ) where
 
   -- the cases of taking in word i
   module _ (i : ℕ) (shut : List ℕ) (free : ℕ) where
+    abbrev x : ℕ
+    x = getD xs i 0
+
     abbrev here : Kept
     here = unmapped (a + i) shut free
 
-    by-word : isWord i ≡ true → takeIn here (getD xs i 0) ≡ found (a + i + 1)
+    by-word : isWord i ≡ true → takeIn here x ≡ found (a + i + 1)
     unfolding takeIn
-    by-word e = simp e
+    by-word e = let same = eqb-true x w e in simp (eq-eqb x w same, eq-eqb w x (sym same))
 
-    by-free : isWord i ≡ false → isTaken shut i ≡ true → takeIn here (getD xs i 0) ≡ unmapped (a + i + 1) noLane (a + i + 1)
-    unfolding takeIn
-    by-free e h = simp (e, h)
+    module _ (e : isWord i ≡ false) where
+      other : eqb w x ≡ false
+      other = ne-eqb w x (λ same. eqb-false x w e (sym same))
 
-    by-other : isWord i ≡ false → isTaken shut i ≡ false → takeIn here (getD xs i 0) ≡ unmapped (a + i + 1) shut free
-    unfolding takeIn
-    by-other e h = simp (e, h)
+      by-free : eqb x 0 ≡ true → isOpen shut (a + i) ≡ true → takeIn here x ≡ unmapped (a + i + 1) noLane (a + i + 1)
+      unfolding takeIn
+      by-free f o = simp (e, other, f, o)
+
+      by-held : eqb x 0 ≡ false → takeIn here x ≡ unmapped (a + i + 1) shut free
+      unfolding takeIn
+      by-held f = simp (e, other, f, and-true, and-false)
+
+      by-shut : isOpen shut (a + i) ≡ false → takeIn here x ≡ unmapped (a + i + 1) shut free
+      unfolding takeIn
+      by-shut o = simp (e, other, o, and-true, and-false)
+
+      by-taken : isTaken shut i ≡ true → takeIn here x ≡ unmapped (a + i + 1) noLane (a + i + 1)
+      by-taken t = let r = and-both (eqb x 0) (isOpen shut (a + i)) t in by-free (r .0) (r .1)
+
+      by-other : isTaken shut i ≡ false → takeIn here x ≡ unmapped (a + i + 1) shut free
+      by-other t =
+          cases (eqb x 0)
+          (λ f. cases (isOpen shut (a + i)) (λ o. absurd (false≢true (sym t ∙ rw (f, o) refl))) by-shut)
+          by-held
 
   one-more : (i : ℕ) (k : Kept) → i < n → takeAll k (drop i xs) ≡ takeAll (takeIn k (getD xs i 0)) (drop (i + 1) xs)
   unfolding takeAll
@@ -121,7 +141,7 @@ module _ (w a : ℕ) (xs : List ℕ) where
       (λ w.
       cases (isTaken shut i)
       (λ o.
-      rw (by-free i shut free w o, sought-miss isWord i n l w, sought-hit (isTaken shut) i n l o, next)
+      rw (by-taken i shut free w o, sought-miss isWord i n l w, sought-hit (isTaken shut) i n l o, next)
       (resumed r (i + 1) noLane (a + (i + 1)) (omega arith) ∙ rw (← next) (free-known shut free _ i (i + 1) l (omega arith))))
       (λ o.
       rw (by-other i shut free w o, sought-miss isWord i n l w, sought-miss (isTaken shut) i n l o, next)
@@ -146,20 +166,24 @@ module _ (w a : ℕ) (xs : List ℕ) where
       never : (i : ℕ) → a + i + 1 ≡ 0 → ⊥
       never i z = lt-irrefl 0 (omega arith)
 
-  -- the frames known are among those passed, and the word sought stays
+  -- the frames known are among those passed, the word sought stays, and there are sixteen lanes, each 0 or 1
   pub record Sound (k : Kept) : Type 0 where
     pub same-word : k .word ≡ w
+    pub taken-below : k .taken ≤ a + n
     pub mapped-below : k .mapped ≤ a + n
     pub free-below : k .free ≤ a + n
+    pub lanes : length (k .shut) ≡ 16
+    pub flags : any (ltb 1) (k .shut) ≡ false
 
-  pub sound : (shut : List ℕ) → Sound (takeAll (unmapped a shut 0) xs)
-  sound shut =
+  pub sound : (shut : List ℕ) → length shut ≡ 16 → any (ltb 1) shut ≡ false → Sound (takeAll (unmapped a shut 0) xs)
+  unfolding noLane
+  sound shut sixteen flags =
       let m : ℕ = lowest isWord n in
       let g : ℕ = lowest (isTaken shut) n in
       rw (in-the-end shut 0)
       (below-or-not m n
-      (λ l. rw (lt-ltb m n l) (record { same-word = refl; mapped-below = omega arith; free-below = omega arith }))
+      (λ l. rw (lt-ltb m n l) (record { same-word = refl; taken-below = omega arith; mapped-below = omega arith; free-below = omega arith; lanes = refl; flags = refl }))
       (λ h.
       below-or-not g n
-      (λ l. rw (le-ltb m n h, lt-ltb g n l) (record { same-word = refl; mapped-below = omega arith; free-below = omega arith }))
-      (λ l. rw (le-ltb m n h, le-ltb g n l) (record { same-word = refl; mapped-below = omega arith; free-below = omega arith }))))
+      (λ l. rw (le-ltb m n h, lt-ltb g n l) (record { same-word = refl; taken-below = omega arith; mapped-below = omega arith; free-below = omega arith; lanes = refl; flags = refl }))
+      (λ l. rw (le-ltb m n h, le-ltb g n l) (record { same-word = refl; taken-below = omega arith; mapped-below = omega arith; free-below = omega arith; lanes = sixteen; flags = flags }))))

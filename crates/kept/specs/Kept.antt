@@ -12,16 +12,19 @@ use Rattle.board.specs.declared.Board.{Board}
 use Rattle.board.specs.Tests.{activeSet}
 use Rattle.calls.specs.Table.{stateOf, wordOf, inSet}
 use Rattle.calls.specs.Calls.{Answer, Outcome, Old, New}
-use Rattle.pass.specs.declared.Kept.{Kept}
+use Rattle.kept.specs.declared.Kept.{Kept}
 
 -- Sixteen lanes: that of frame f is f modulo 16. N divides 16, so that the frames of a lane have one colour. A lane with 0 is open: a free frame in it
 -- would be taken.
 abbrev pub isOpen : List ℕ → ℕ → Bool
 isOpen shut f = eqb (getD shut (f % 16) 0) 0
 
--- the lanes of the colours, of n, in set c are open
+-- a lane is open where its colour, of n, is in set c
+unfoldable pub laneOf : ℕ → ℕ → ℕ → ℕ
+laneOf n c i = if inSet n c i then 0 else 1
+
 unfoldable pub lanesOf : ℕ → ℕ → List ℕ
-lanesOf n c = map (λ (i : ℕ). if inSet n c i then 0 else 1) (upto 16)
+lanesOf n c = map (laneOf n c) (upto 16)
 
 -- no lane is open
 unfoldable pub noLane : List ℕ

@@ -2,14 +2,14 @@
 -- frame that gets the word.
 use Prim.Native.Nat.{ℕ, _+_, _-_, _<_, _≤_}
 use native.Mathlib.Omega.{arith}
-use mathlib.Core.Bool.{Bool, true, _&&_}
+use mathlib.Core.Bool.{Bool, true, false, _&&_}
 use mathlib.Core.List.{List, [], _∷_, _++_}
 use mathlib.Core.Path.{_≡_, refl, sym, ap, ap₂, _∙_}
 use lib.Dec.{eqb, ltb}
-use lib.ListN.{length, getD, set}
-use borrow.Author.Tests.{lt-ltb, le-ltb}
-use Rattle.lists.specs.Range.{upto, keep, lowest, isEmpty}
-use Rattle.lists.proofs.Split.{below-or-not}
+use lib.ListN.{length, getD, set, length-append}
+use borrow.Author.Tests.{lt-ltb, le-ltb, ltb-false}
+use Rattle.lists.specs.Range.{upto, keep, any, lowest, isEmpty}
+use Rattle.lists.proofs.Split.{below-or-not, neither}
 use Rattle.lists.proofs.Found.{kept-found, kept-missed}
 use Rattle.lists.proofs.Same.{same-lowest}
 use Rattle.refusal.specs.Reply.{Answers, Refuses, test, unless, passes}
@@ -21,10 +21,42 @@ use Rattle.board.proofs.Passed.{Accepted, accepted}
 use Rattle.calls.specs.Table.{State, stateOf, wordOf, inSet, hasWord, isFree, framesWith, mappedTo, isChoice, choices}
 use Rattle.calls.specs.Calls.{Outcome, Old, New, settle, pageTest, pageTests, written, faultDone, fault}
 use Rattle.calls.proofs.Settled.{ten-passed}
-use Rattle.pass.specs.declared.Kept.{Kept}
-use Rattle.pass.specs.Kept.{isOpen, lanesOf, noLane, start, takeAll, after, answerOf, tableOf, outcomeOf}
-use Rattle.pass.proofs.Closed.{found, unmapped, settled, settled-word, settled-free, settled-none, isTaken, take-append, in-the-end, Sound, sound}
-use Rattle.pass.proofs.Lanes.{lane-is-open}
+use Rattle.kept.specs.declared.Kept.{Kept}
+use Rattle.kept.specs.Kept.{isOpen, lanesOf, noLane, start, takeAll, after, answerOf, tableOf, outcomeOf, numbers}
+use Rattle.kept.proofs.Closed.{found, unmapped, settled, settled-word, settled-free, settled-none, isTaken, take-append, in-the-end, Sound, sound}
+use Rattle.kept.proofs.Lanes.{lanes-count, lane-flags, lane-is-open}
+
+first-part : (b : Board) (d p : ℕ) (xs : List ℕ) → Sound (wordOf d p) 0 xs (after b d p xs)
+unfolding after start
+first-part b d p xs = sound (wordOf d p) 0 xs (lanesOf (b .colours) (activeSet b d)) (lanes-count (b .colours) (activeSet b d)) (lane-flags (b .colours) (activeSet b d))
+
+-- twenty numbers, and the words of a block of sixteen: each fits in 16 bits
+over-either : (xs ys : List ℕ) → any (ltb 65535) xs ≡ false → any (ltb 65535) ys ≡ false → any (ltb 65535) (xs ++ ys) ≡ false
+over-either [] ys e h = h
+over-either (x ∷ xs) ys e h = let r = neither (ltb 65535 x) (any (ltb 65535) xs) e in rw (r .0) (over-either xs ys (r .1) h)
+
+over-flags : (xs : List ℕ) → any (ltb 1) xs ≡ false → any (ltb 65535) xs ≡ false
+over-flags [] e = refl
+over-flags (x ∷ xs) e =
+    let r = neither (ltb 1 x) (any (ltb 1) xs) e in
+    rw (le-ltb 65535 x (omega (arith, ltb-false 1 x (r .0)))) (over-flags xs (r .1))
+
+pub few-numbers :
+    (b : Board) (d p : ℕ) (xs bs : List ℕ) → d < 8 → p ≤ 4095 → length xs ≤ 4096 → length bs ≤ 16 → any (ltb 65535) bs ≡ false
+    → (length (numbers (after b d p xs) bs) ≤ 64) × (any (ltb 65535) (numbers (after b d p xs) bs) ≡ false)
+unfolding numbers
+few-numbers b d p xs bs dl pl xl bl small =
+    let k : Kept = after b d p xs in
+    let r = first-part b d p xs in (
+      omega (arith, length-append (k .shut) bs, r .lanes),
+      rw (
+        le-ltb 65535 (k .word) (omega (arith, r)),
+        le-ltb 65535 (k .taken) (omega (arith, r)),
+        le-ltb 65535 (k .mapped) (omega (arith, r)),
+        le-ltb 65535 (k .free) (omega (arith, r)),
+      )
+          (over-either (k .shut) bs (over-flags (k .shut) (r .flags)) small),
+    )
 
 module _ (b : Board) (d p : ℕ) (t : List ℕ) (ok : passes (pageTests b (length t) d p) ≡ true) where
   abbrev s : State
@@ -130,8 +162,7 @@ module _ (b : Board) (d p : ℕ) (t : List ℕ) (ok : passes (pageTests b (lengt
   end = after b d p t
 
   pub end-sound : Sound w 0 t end
-  unfolding after start
-  end-sound = sound w 0 t lanes
+  end-sound = first-part b d p t
 
   pub old-frame : 0 < end .mapped → fault s d p ≡ record { reply = Answers (Old (end .mapped - 1)); moves = []; next = s }
   unfolding answerOf tableOf

@@ -1,0 +1,2 @@
+-- The definitions of `kept`.
+pub mod Kept
