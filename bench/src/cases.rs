@@ -207,6 +207,37 @@ impl Case for Fault {
     }
 }
 
+/// A fault of a mapped page, which changes nothing.
+pub struct MappedFault(pub Frames);
+
+impl Case for MappedFault {
+    fn ours(&mut self) {
+        let page = black_box(self.0.page);
+        let Frames { lent, table, .. } = &mut self.0;
+        black_box(ours::fault(black_box(lent), black_box(table), 1, page));
+    }
+
+    fn base(&mut self) {
+        let page = black_box(self.0.page);
+        let Frames { board, table, .. } = &mut self.0;
+        let _ = black_box(baseline::fault(black_box(board), black_box(table), 1, page));
+    }
+
+    fn agree(&mut self) -> bool {
+        let page = self.0.page;
+        let [mut one, mut two] = [self.0.table.clone(), self.0.table.clone()];
+        let base = reply(baseline::fault(&self.0.board, &mut one, 1, page), faulted);
+        let ours = ours::fault(&self.0.lent, &mut two, 1, page);
+        let untouched = one == self.0.table && two == self.0.table;
+        // the cases are all of old frames
+        ours == base && untouched && ours.0 == 0 && ours.2[0] == 0
+    }
+
+    fn symbols(&self) -> [&'static str; 2] {
+        ["juzvanec_fault", "baseline_fault"]
+    }
+}
+
 /// Faults of that many pages in turn, from a table that is copied first.
 pub struct Boot {
     pub frames: Frames,

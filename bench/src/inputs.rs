@@ -2,7 +2,7 @@
 
 use baseline::Board;
 
-use crate::cases::{Admission, Boot, Case, Fault, Frames, Look, Pages, Recolour};
+use crate::cases::{Admission, Boot, Case, Fault, Frames, Look, MappedFault, Pages, Recolour};
 
 /// All rows of the largest plan.
 pub const ROWS: usize = 48;
@@ -222,6 +222,7 @@ fn frame_cases(f: u32) -> Vec<Named> {
         table: vec![0; f as usize],
     };
     let look = |page| Look(frames(held(f, f), page));
+    let mapped = |page| MappedFault(frames(held(f, f), page));
     let fault = |table| Fault(frames(table, UNMAPPED));
     let size = format!(", F = {f}");
     vec![
@@ -230,6 +231,12 @@ fn frame_cases(f: u32) -> Vec<Named> {
         named("fault, empty table", &size, fault(held(f, 0))),
         named("fault, half-full table", &size, fault(held(f, f / 2))),
         named("fault, nearly full table", &size, fault(nearly_full(f))),
+        named(
+            "fault, page in one of the first frames",
+            &size,
+            mapped(first),
+        ),
+        named("fault, page in one of the last frames", &size, mapped(last)),
         named("boot", &format!(" of {faults} faults{size}"), boot),
         named(
             "recolour",

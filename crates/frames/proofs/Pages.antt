@@ -1,21 +1,21 @@
 -- Look and release on a table whose page tests pass, in terms of the frame that the loop finds: the lowest with the page's word.
-use Prim.Native.Nat.{ℕ, _+_, _<_, _≤_, zero-le}
+use Prim.Native.Nat.{ℕ, _+_, _<_, _≤_}
 use native.Mathlib.Nat.{lt-irrefl}
 use native.Mathlib.Omega.{arith}
-use mathlib.Core.Bool.{Bool, true, false, _&&_}
+use mathlib.Core.Bool.{Bool, true}
 use mathlib.Core.List.{List, [], _∷_, _++_}
-use mathlib.Core.Path.{_≡_, refl, ap, ap₂, _∙_}
+use mathlib.Core.Path.{_≡_, refl, ap, _∙_}
 use lib.ListN.{length}
-use Rattle.lists.specs.Range.{upto, keep, lowest, isEmpty, headOr, lowestFrom}
+use Rattle.lists.specs.Range.{upto, keep, isEmpty, headOr, lowestFrom}
 use Rattle.lists.proofs.Members.{Each}
 use Rattle.lists.proofs.Filter.{kept}
 use Rattle.lists.proofs.Found.{kept-found, kept-missed}
 use Rattle.refusal.specs.Reply.{Answers, Refuses, Test, test, unless}
 use Rattle.refusal.proofs.Replies.{passed-answers}
 use Rattle.board.specs.declared.Board.{Board}
-use Rattle.board.specs.Tests.{activeSet, callTests}
-use Rattle.calls.specs.Table.{State, stateOf, word, wordOf, framesWith, mappedTo, isChoice, choices, hasWord, isFree}
-use Rattle.calls.specs.Calls.{Answer, Outcome, Mapped, Unmapped, Old, New, Freed, settle, called, pageTest, only, written, lookAnswer, look, faultDone, fault, release}
+use Rattle.board.specs.Tests.{callTests}
+use Rattle.calls.specs.Table.{State, stateOf, wordOf, framesWith, mappedTo, hasWord}
+use Rattle.calls.specs.Calls.{Answer, Outcome, Mapped, Unmapped, Freed, settle, called, pageTest, only, written, lookAnswer, look, release}
 use Rattle.calls.proofs.Settled.{settled-refused, settled-answers}
 use Rattle.frames.specs.Steps.{pageReply}
 use Rattle.frames.proofs.Called.{refused, answered, page-passed, page-accepted}

@@ -5,7 +5,7 @@ ghost use mathlib.Core.Bool.{true, not, _&&_};
 ghost use Prim.Native.Nat.{ℕ, _+_, _≤_, _<_};
 ghost use lib.Dec.{eqb};
 ghost use lib.ListN.{length};
-ghost use Rattle.lists.specs.Range.{keep, upto, any, lowest, lowestFrom};
+ghost use Rattle.lists.specs.Range.{keep, upto, any, lowestFrom};
 ghost use Rattle.colours.specs.Cache.{isColourCount};
 ghost use Rattle.calls.specs.Table.{wordOf, isOf, inSet, hasWord, isFree, isStray};
 ghost use Rattle.kept.specs.Kept.{lanesOf};

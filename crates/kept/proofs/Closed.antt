@@ -6,7 +6,7 @@ use native.Mathlib.Numerals.{add-one}
 use native.Mathlib.Omega.{arith}
 use mathlib.Core.Bool.{Bool, true, false, _&&_, and-true, and-false, false≢true}
 use mathlib.Core.List.{List, [], _∷_, _++_}
-use mathlib.Core.Path.{_≡_, refl, sym, ap, ap₂, _∙_}
+use mathlib.Core.Path.{_≡_, refl, sym, ap, _∙_}
 use lib.Dec.{eqb, ltb}
 use lib.ListN.{length, getD, drop, getD-replicate, drop-of-length-le}
 use lib.Seq.{drop-cons}
@@ -17,7 +17,7 @@ use Rattle.lists.proofs.Split.{cases, below-or-not, and-both}
 use Rattle.lists.proofs.Sought.{sought-hit, sought-miss, sought-end}
 use Rattle.lists.proofs.Found.{sought-past}
 use Rattle.kept.specs.declared.Kept.{Kept}
-use Rattle.kept.specs.Kept.{isOpen, noLane, onwards, takeIn, takeAll}
+use Rattle.kept.specs.Kept.{isOpen, noLane, takeIn, takeAll}
 
 -- nothing more is taken in once the page's frame is known
 pub known-stays : (k : Kept) (xs : List ℕ) → 0 < k .mapped → takeAll k xs ≡ k

@@ -6,7 +6,7 @@ use mathlib.Core.Bool.{Bool, true, false, _&&_}
 use mathlib.Core.List.{List, [], _∷_, _++_}
 use mathlib.Core.Path.{_≡_, refl, sym, ap, ap₂, _∙_}
 use lib.Dec.{eqb, ltb}
-use lib.ListN.{length, getD, set, length-append}
+use lib.ListN.{length, getD, length-append}
 use borrow.Author.Tests.{lt-ltb, le-ltb, ltb-false}
 use Rattle.lists.specs.Range.{upto, keep, any, lowest, isEmpty}
 use Rattle.lists.proofs.Split.{below-or-not, neither}
@@ -22,7 +22,7 @@ use Rattle.calls.specs.Table.{State, stateOf, wordOf, inSet, hasWord, isFree, f
 use Rattle.calls.specs.Calls.{Outcome, Old, New, settle, pageTest, pageTests, written, faultDone, fault}
 use Rattle.calls.proofs.Settled.{ten-passed}
 use Rattle.kept.specs.declared.Kept.{Kept}
-use Rattle.kept.specs.Kept.{isOpen, lanesOf, noLane, start, takeAll, after, answerOf, tableOf, outcomeOf, numbers}
+use Rattle.kept.specs.Kept.{lanesOf, noLane, start, after, answerOf, takerOf, answer, taker, withWord, numbers}
 use Rattle.kept.proofs.Closed.{found, unmapped, settled, settled-word, settled-free, settled-none, isTaken, take-append, in-the-end, Sound, sound}
 use Rattle.kept.proofs.Lanes.{lanes-count, lane-flags, lane-is-open}
 
@@ -98,7 +98,7 @@ module _ (b : Board) (d p : ℕ) (t : List ℕ) (ok : passes (pageTests b (lengt
 
   -- the fault's outcome, by what is kept
   abbrev given : Kept → Outcome
-  given k = record { reply = answerOf k; moves = []; next = stateOf b (tableOf k t) }
+  given k = record { reply = answerOf k; moves = []; next = stateOf b (withWord (takerOf k) w t) }
 
   abbrev m : ℕ
   m = lowest holds n
@@ -115,15 +115,15 @@ module _ (b : Board) (d p : ℕ) (t : List ℕ) (ok : passes (pageTests b (lengt
     number = omega arith
 
   by-word : m < n → given (found w 0 t (0 + m + 1)) ≡ fault s d p
-  unfolding answerOf tableOf unless settle
+  unfolding answerOf takerOf withWord unless settle
   by-word l = simp (there m, number m) (sym (fault-is ∙ ap (λ (fs : List ℕ). faulted fs (keep free (upto n))) (kept-found holds n l)))
 
   by-free : n ≤ m → g < n → given (unmapped w 0 t (0 + n) noLane (0 + g + 1)) ≡ fault s d p
-  unfolding answerOf tableOf unless settle
+  unfolding answerOf takerOf withWord unless settle
   by-free h l = simp (there g, number g) (sym (fault-is ∙ ap₂ faulted (kept-missed holds n h) (kept-found free n l)))
 
   by-none : n ≤ m → n ≤ g → given (unmapped w 0 t (0 + n) (lanesOf (b .colours) (activeSet b d)) 0) ≡ fault s d p
-  unfolding answerOf tableOf unless settle
+  unfolding answerOf takerOf withWord unless settle
   by-none h l = sym (fault-is ∙ ap₂ faulted (kept-missed holds n h) (kept-missed free n l))
 
   abbrev lanes : List ℕ
@@ -152,10 +152,13 @@ module _ (b : Board) (d p : ℕ) (t : List ℕ) (ok : passes (pageTests b (lengt
       ∙ by-case
 
   -- the first part xs, the words bs of the block under way, and the words ys after them
-  pub one-pass : (xs bs ys : List ℕ) → t ≡ xs ++ (bs ++ ys) → fault s d p ≡ outcomeOf b t (after b d p xs) (bs ++ ys)
-  unfolding after outcomeOf
-  one-pass xs bs ys e =
-      sym whole-pass ∙ ap given (ap (after b d p) e ∙ take-append (start w lanes) xs (bs ++ ys))
+  pub one-pass :
+      (xs bs ys : List ℕ)
+      → t ≡ xs ++ (bs ++ ys)
+      → let k = after b d p xs in
+      fault s d p ≡ record { reply = answer k (bs ++ ys); moves = []; next = stateOf b (withWord (taker k (bs ++ ys)) w t) }
+  unfolding after answer taker
+  one-pass xs bs ys e = sym whole-pass ∙ ap given (ap (after b d p) e ∙ take-append (start w lanes) xs (bs ++ ys))
 
   -- the outcome, by what is known in the end
   abbrev pub end : Kept
@@ -165,13 +168,13 @@ module _ (b : Board) (d p : ℕ) (t : List ℕ) (ok : passes (pageTests b (lengt
   end-sound = first-part b d p t
 
   pub old-frame : 0 < end .mapped → fault s d p ≡ record { reply = Answers (Old (end .mapped - 1)); moves = []; next = s }
-  unfolding answerOf tableOf
+  unfolding answerOf takerOf withWord
   old-frame l = sym whole-pass ∙ simp (lt-ltb 0 (end .mapped) l)
 
   pub new-frame : end .mapped ≤ 0 → 0 < end .free → fault s d p ≡ record { reply = Answers (New (end .free - 1)); moves = []; next = written s (end .free - 1) w }
-  unfolding answerOf tableOf
+  unfolding answerOf takerOf withWord
   new-frame h l = sym whole-pass ∙ simp (le-ltb 0 (end .mapped) h, lt-ltb 0 (end .free) l, end-sound .same-word)
 
   pub no-frame : end .mapped ≤ 0 → end .free ≤ 0 → fault s d p ≡ record { reply = Refuses 12 0; moves = []; next = s }
-  unfolding answerOf tableOf
+  unfolding answerOf takerOf withWord
   no-frame h l = sym whole-pass ∙ simp (le-ltb 0 (end .mapped) h, le-ltb 0 (end .free) l)

@@ -1,5 +1,6 @@
--- What a fault keeps while it takes in the words of the frame table, one after another: document 02, No. 2. `Kept` is the struct of the code. A
--- frame that is known stands in it as 1 and its number, and 0 says that none is.
+-- What a fault keeps while it takes in the words of the frame table, one after another: document 02, No. 2. `Kept` is the struct of the code: the
+-- page's word, sixteen lanes, the number of words taken in, the frame with the page's word and the free frame to take. A frame that is known
+-- stands there as 1 and its number, and 0 says that none is.
 use Prim.Native.Nat.{ℕ, _+_, _-_, _%_}
 use mathlib.Core.Bool.{Bool, _&&_}
 use mathlib.Core.List.{List, [], _∷_, _++_, map}
@@ -10,8 +11,8 @@ use Rattle.lists.specs.Range.{upto}
 use Rattle.refusal.specs.Reply.{Reply, Answers, Refuses}
 use Rattle.board.specs.declared.Board.{Board}
 use Rattle.board.specs.Tests.{activeSet}
-use Rattle.calls.specs.Table.{stateOf, wordOf, inSet}
-use Rattle.calls.specs.Calls.{Answer, Outcome, Old, New}
+use Rattle.calls.specs.Table.{wordOf, inSet}
+use Rattle.calls.specs.Calls.{Answer, Old, New}
 use Rattle.kept.specs.declared.Kept.{Kept}
 
 -- Sixteen lanes: that of frame f is f modulo 16. N divides 16, so that the frames of a lane have one colour. A lane with 0 is open: a free frame in it
@@ -38,8 +39,9 @@ start w shut = record { word = w; shut = shut; taken = 0; mapped = 0; free = 0 }
 abbrev pub onwards : Kept → List ℕ → ℕ → ℕ → Kept
 onwards k shut mapped free = record { word = k .word; shut = shut; taken = k .taken + 1; mapped = mapped; free = free }
 
--- Taking in word x, that of frame `taken`. Once the page's frame is known nothing changes any more; x is the page's word: the frame is known, and no
--- other is wanted; the frame is free, in an open lane: it will be taken unless the page's word comes, and no other is; else all stays as it was
+-- Taking in word x, that of frame `taken`. Where the page's frame is known, nothing changes any more. If x is the page's word, its frame is known and
+-- no other is wanted; if the frame is free in an open lane, it is the one to take unless the page's word comes, and all lanes are shut; else no
+-- frame more is known.
 unfoldable pub takeIn : Kept → ℕ → Kept
 takeIn k x =
     if ltb 0 (k .mapped) then k
@@ -55,20 +57,25 @@ takeAll k (x ∷ xs) = takeAll (takeIn k x) xs
 unfoldable pub after : Board → ℕ → ℕ → List ℕ → Kept
 after b d p xs = takeAll (start (wordOf d p) (lanesOf (b .colours) (activeSet b d))) xs
 
--- what it gives when no word is left: the page's frame, else the free frame, else refusal 12
+-- What is kept when no word is left gives the answer: the page's frame, else the free frame, else refusal 12
 unfoldable pub answerOf : Kept → Reply Answer
 answerOf k =
     if ltb 0 (k .mapped) then Answers (Old (k .mapped - 1)) else if ltb 0 (k .free) then Answers (New (k .free - 1)) else Refuses 12 0
 
--- the table afterwards: the free frame gets the word, unless the page has a frame
-unfoldable pub tableOf : Kept → List ℕ → List ℕ
-tableOf k t = if ltb 0 (k .mapped) then t else if ltb 0 (k .free) then set t (k .free - 1) (k .word) else t
+-- and the frame that gets the word, which is the free frame where the page has none
+unfoldable pub takerOf : Kept → ℕ
+takerOf k = if ltb 0 (k .mapped) then 0 else k .free
 
--- the fault's outcome by the numbers kept and the words still to come; the board and the table are only handed on
-unfoldable pub outcomeOf : Board → List ℕ → Kept → List ℕ → Outcome
-outcomeOf b t k xs =
-    let end = takeAll k xs in
-    record { reply = answerOf end; moves = []; next = stateOf b (tableOf end t) }
+-- what is kept gives them with the words that are still to come
+unfoldable pub answer : Kept → List ℕ → Reply Answer
+answer k xs = answerOf (takeAll k xs)
+
+unfoldable pub taker : Kept → List ℕ → ℕ
+taker k xs = takerOf (takeAll k xs)
+
+-- a table in which such a frame, if there is one, has got word w
+unfoldable pub withWord : ℕ → ℕ → List ℕ → List ℕ
+withWord f w t = if ltb 0 f then set t (f - 1) w else t
 
 -- all numbers kept between two words: those of the record, and the words of the block under way
 unfoldable pub numbers : Kept → List ℕ → List ℕ

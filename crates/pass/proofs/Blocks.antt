@@ -1,9 +1,8 @@
 -- A block of at most sixteen frames that starts at a multiple of sixteen: lane and place in the block are one number there. What is kept after
 -- its words, by the lowest lane with the page's word and the lowest open lane with a free frame.
 use Prim.Native.Nat.{ℕ, _+_, _%_, _<_, _≤_}
-use native.Mathlib.Nat.{le-refl}
 use native.Mathlib.Omega.{arith}
-use mathlib.Core.Bool.{Bool, false, _&&_, _||_}
+use mathlib.Core.Bool.{Bool, false, _&&_}
 use mathlib.Core.List.{List}
 use mathlib.Core.Path.{_≡_, sym, ap, ap₂, _∙_}
 use lib.Dec.{eqb}
@@ -14,9 +13,9 @@ use Rattle.lists.proofs.Split.{neither}
 use Rattle.lists.proofs.Found.{any-none, none-lowest}
 use Rattle.lists.proofs.Same.{same-lowest}
 use Rattle.kept.specs.declared.Kept.{Kept}
-use Rattle.kept.specs.Kept.{isOpen, noLane, takeAll}
+use Rattle.kept.specs.Kept.{noLane, takeAll}
 use Rattle.pass.specs.Steps.{matters, AtBlock}
-use Rattle.kept.proofs.Closed.{found, unmapped, settled, settled-word, settled-free, settled-none, isWord, isTaken, in-the-end}
+use Rattle.kept.proofs.Closed.{found, unmapped, settled, settled-word, settled-free, settled-none, isTaken, in-the-end}
 
 -- the front of a block is searched like the block
 pub same-front : (p : ℕ → ℕ → Bool) (block : List ℕ) (filled : ℕ) → filled ≤ length block → lowest (λ (i : ℕ). p (getD block i 0) i) filled ≡ lowest (λ (i : ℕ). p (getD (take filled block) i 0) i) (length (take filled block))

@@ -1,6 +1,6 @@
 -- The pass under way: the numbers kept so far, with the words after them, give what the whole table does. These are the invariant of the loop over
 -- the blocks and its laws, which know nothing of the code.
-use Prim.Native.Nat.{ℕ, _+_, _-_, _%_, _<_, _≤_}
+use Prim.Native.Nat.{ℕ, _+_, _-_, _%_, _≤_}
 use native.Mathlib.Nat.{le-refl, pos-of-ne-zero}
 use native.Mathlib.Omega.{arith}
 use mathlib.Core.Bool.{false}

@@ -1,10 +1,10 @@
 -- What the code works out on its way: which word of a block matters, and what it knows at the start of one.
-use Prim.Native.Nat.{ℕ, _+_, _*_, _%_, _≤_}
+use Prim.Native.Nat.{ℕ, _+_, _%_, _≤_}
 use mathlib.Core.Bool.{Bool, _&&_, _||_}
 use mathlib.Core.List.{List}
 use mathlib.Core.Path.{_≡_}
 use lib.Dec.{eqb}
-use lib.ListN.{getD, length}
+use lib.ListN.{getD}
 use Rattle.kept.specs.declared.Kept.{Kept}
 
 -- word i of a block is w, or is that of a free frame in an open lane

@@ -76,7 +76,7 @@ fn run(call: &Call, board: &mut juzvanec::Board, table: &mut [u16], moves: &mut 
 }
 
 /// Runs the call on both sides and compares all that either leaves.
-fn compare(state: &mut State, call: &Call, tally: &mut Tally) {
+pub fn compare(state: &mut State, call: &Call, tally: &mut Tally) {
     let before = state.clone();
     let mut board = lent(&state.board);
     let mut table = Lent::new(&state.table, GUARD);

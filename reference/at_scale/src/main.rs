@@ -1,10 +1,11 @@
 //! The comparison at scale: the linked library, through its C interface, against the separate tool's own
-//! model, on random cases from a seed. The last line is `N cases, D differences`; it fails where D is not
-//! 0, or where a kind of reply never occurs.
+//! model, on faults at chosen lengths of the table and then on random cases from a seed. The last line is
+//! `N cases, D differences`; it fails where D is not 0, or where a kind of reply never occurs.
 
 mod frames;
 mod inputs;
 mod interface;
+mod lengths;
 mod lent;
 mod pages;
 mod plans;
@@ -17,7 +18,7 @@ use reference::random::Random;
 use tally::{unlike, Tally};
 
 const USAGE: &str = "usage: at_scale [SEED] [CASES | SECONDSs]
-  at_scale 7 500000   stops after 500,000 cases or a few more
+  at_scale 7 500000   stops after 500,000 random cases or a few more
   at_scale 7 20s      stops after 20 seconds";
 
 const SEED: u64 = 2003;
@@ -42,7 +43,7 @@ impl Bound {
 
     fn reached(&self, tally: &Tally, start: Instant) -> bool {
         match self {
-            Bound::Cases(cases) => tally.cases >= *cases,
+            Bound::Cases(cases) => tally.cases - tally.chosen >= *cases,
             Bound::Time(time) => start.elapsed() >= *time,
         }
     }
@@ -68,10 +69,12 @@ fn main() -> ExitCode {
     }
 }
 
-/// Cases of all kinds in turn until the bound is reached.
+/// The chosen cases, then random ones of all kinds in turn until the bound is reached.
 fn compare(seed: u64, bound: &Bound) -> Tally {
     let mut random = Random::new(seed);
     let mut tally = Tally::default();
+    lengths::all(&mut tally);
+    tally.chosen = tally.cases;
     let start = Instant::now();
     while !bound.reached(&tally, start) {
         let number = unlike("number", interface::number(), juzvanec::INTERFACE);

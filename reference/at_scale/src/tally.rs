@@ -46,6 +46,8 @@ pub struct Short {
 #[derive(Default)]
 pub struct Tally {
     pub cases: u64,
+    /// The faults at chosen lengths of the table among them.
+    pub chosen: u64,
     pub differences: u64,
     pub rounds: Rounds,
     pub short: Short,
@@ -111,7 +113,8 @@ impl Tally {
         println!(
             "{all} rounds for {found} times, {most} at most for one, {at_bound} at a bound above 2"
         );
-        for count in [times, rounds, at_bound] {
+        println!("{} faults at chosen lengths of the table", self.chosen);
+        for count in [times, rounds, at_bound, self.chosen] {
             missing += u32::from(count == 0);
         }
         if missing > 0 {

@@ -78,10 +78,51 @@ uint32_t juzvanec_look(const struct juzvanec_board *board, const uint16_t *table
     return number;
 }
 
+/* A fault that does not see the words from one on. */
+static uint32_t fault_up_to(const struct juzvanec_board *board, uint16_t *table, size_t words, uint32_t domain,
+                            uint32_t page, uint32_t *is_new, uint32_t *frame, uint32_t *row)
+{
+    struct juzvanec_board shorter = *board;
+
+    shorter.frames = (uint32_t)words;
+    return right_fault(&shorter, table, words, domain, page, is_new, frame, row);
+}
+
+/* A fault that does not see one word. */
+static uint32_t fault_without(const struct juzvanec_board *board, uint16_t *table, size_t table_words, uint32_t unseen,
+                              uint32_t domain, uint32_t page, uint32_t *is_new, uint32_t *frame, uint32_t *row)
+{
+    uint16_t word = table[unseen];
+    uint32_t number;
+
+    table[unseen] = JUZVANEC_RESERVED;
+    number = right_fault(board, table, table_words, domain, page, is_new, frame, row);
+    table[unseen] = word;
+    return number;
+}
+
 uint32_t juzvanec_fault(const struct juzvanec_board *board, uint16_t *table, size_t table_words,
                         uint32_t domain, uint32_t page, uint32_t *is_new, uint32_t *frame, uint32_t *row)
 {
-    uint32_t number = right_fault(board, table, table_words, domain, page, is_new, frame, row);
+    size_t whole = table_words - table_words % 16;
+    uint32_t number, above;
+
+    if (board->frames == table_words && whole > 0 && wrong("fault-rest"))
+        return fault_up_to(board, table, whole, domain, page, is_new, frame, row);
+    number = right_fault(board, table, table_words, domain, page, is_new, frame, row);
+    if (!number && !*is_new && *frame % 16 == 15 && wrong("fault-block-end"))
+        return fault_without(board, table, table_words, *frame, domain, page, is_new, frame, row);
+    if (!number && !*is_new && *frame > 0 && table[0] == JUZVANEC_FREE && wrong("fault-forgets"))
+        return fault_without(board, table, table_words, *frame, domain, page, is_new, frame, row);
+    if (*is_new && wrong("fault-last")) {
+        for (above = *frame; above < table_words; above += board->colours)
+            if (table[above] == JUZVANEC_FREE) {
+                table[above] = table[*frame];
+                table[*frame] = JUZVANEC_FREE;
+                *frame = above;
+            }
+        return number;
+    }
 
     if (*is_new && wrong("fault-table"))
         table[*frame] = JUZVANEC_FREE;

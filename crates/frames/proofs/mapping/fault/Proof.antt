@@ -1,5 +1,5 @@
 -- `frames::mapping::fault` meets its contract: the outcomes of the one pass, by the frame that is known in the end.
-use Prim.Native.Nat.{ℕ, _-_, _≤_, _<_}
+use Prim.Native.Nat.{ℕ, _-_, _≤_}
 use native.Mathlib.Omega.{arith}
 use mathlib.Core.Bool.{true}
 use mathlib.Core.List.{List}
@@ -8,7 +8,6 @@ use lib.ListN.{length, set}
 use borrow.Author.Needs.{needs}
 use Rattle.refusal.specs.Reply.{Answers, passes}
 use Rattle.board.specs.Paper.{paperChecked}
-use Rattle.board.specs.Tests.{activeSet}
 use Rattle.calls.specs.Table.{wordOf}
 use Rattle.calls.specs.Calls.{Old, New, fault, pageTests}
 use Rattle.kept.specs.declared.Kept.{Kept}

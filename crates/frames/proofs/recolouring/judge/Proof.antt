@@ -15,8 +15,8 @@ use Rattle.refusal.proofs.Order.{unless-refused}
 use Rattle.board.specs.Paper.{paperChecked}
 use Rattle.board.specs.Tests.{grant, emptyOrOutside, callTests, callReply}
 use Rattle.board.proofs.Passed.{accepted}
-use Rattle.calls.specs.Table.{stateOf, isStray}
-use Rattle.calls.specs.Calls.{Moved, recolourTests}
+use Rattle.calls.specs.Table.{isStray}
+use Rattle.calls.specs.Calls.{Moved}
 use Rattle.frames.specs.Steps.{recolourReply}
 use Rattle.frames.proofs.Recolours.{held, free, reply-nine, reply-twelve, reply-thirteen, reply-count}
 use Rattle.frames.proofs.recolouring.judge.Statement.{statement}

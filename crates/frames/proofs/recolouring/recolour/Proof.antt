@@ -1,5 +1,4 @@
 -- `frames::recolouring::recolour` meets its contract: what a recolouring with the reply that was judged does (`Recolours`).
-use native.Mathlib.Omega.{arith}
 use mathlib.Core.Path.{_≡_, sym, ap, _∙_}
 use lib.ListN.{length}
 use borrow.Author.Needs.{needs}

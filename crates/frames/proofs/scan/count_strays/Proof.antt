@@ -1,14 +1,12 @@
 -- `frames::scan::count_strays` meets its contract. The invariant: what is counted and what is ahead make up the number.
-use Prim.Native.Nat.{ℕ, _+_, _-_, _≤_, _<_}
+use Prim.Native.Nat.{_-_}
 use native.Mathlib.Omega.{arith}
-use mathlib.Core.Bool.{Bool, true, false, not, _&&_}
-use mathlib.Core.List.{List}
 use mathlib.Core.Logic.{⊎-elim}
-use mathlib.Core.Path.{_≡_, sym, ap, ap₂, _∙_}
+use mathlib.Core.Path.{sym, _∙_}
 use lib.ListN.{length}
 use borrow.Author.Needs.{needs}
 use Rattle.lists.proofs.Sought.{Counting, counting-start, counting-hit, counting-miss, counting-end}
-use Rattle.calls.specs.Table.{word, isStray}
+use Rattle.calls.specs.Table.{isStray}
 use Rattle.frames.proofs.scan.count_strays.Statement.{statement}
 use Rattle.frames.proofs.scan.count_strays.Tie as tie
 

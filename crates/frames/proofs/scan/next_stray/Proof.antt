@@ -1,13 +1,11 @@
 -- `frames::scan::next_stray` meets its contract. The invariant: the frame sought is sought from `f` on.
-use Prim.Native.Nat.{ℕ, _-_, _≤_}
+use Prim.Native.Nat.{_-_}
 use native.Mathlib.Omega.{arith}
-use mathlib.Core.Bool.{Bool, true, false, not, _&&_}
-use mathlib.Core.List.{List}
-use mathlib.Core.Path.{_≡_, refl, sym, ap₂, _∙_}
+use mathlib.Core.Path.{sym, _∙_}
 use lib.ListN.{length}
 use borrow.Author.Needs.{needs}
 use Rattle.lists.proofs.Sought.{Seeking, seek-start, seek-hit, seek-miss, seek-end}
-use Rattle.calls.specs.Table.{word, isStray}
+use Rattle.calls.specs.Table.{isStray}
 use Rattle.frames.proofs.scan.next_stray.Statement.{statement}
 use Rattle.frames.proofs.scan.next_stray.Tie as tie
 

@@ -1,8 +1,7 @@
 -- `pass::block::finish` meets its contract: no word matters, or those read stand in front of the block that is looked through.
-use native.Mathlib.Omega.{arith}
 use Prim.Native.Nat.{ℕ}
 use mathlib.Core.List.{List}
-use mathlib.Core.Path.{_≡_, sym, ap, _∙_}
+use mathlib.Core.Path.{sym, ap, _∙_}
 use lib.ListN.{length, take}
 use borrow.Author.Needs.{needs}
 use Rattle.kept.specs.Kept.{takeAll}

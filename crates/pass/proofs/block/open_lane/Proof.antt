@@ -2,7 +2,6 @@
 use Prim.Native.Nat.{ℕ, _-_}
 use native.Mathlib.Omega.{arith}
 use mathlib.Core.Bool.{_&&_}
-use mathlib.Core.List.{List}
 use lib.Dec.{eqb}
 use lib.ListN.{getD}
 use Rattle.lists.proofs.Sought.{Seeking, seek-start, seek-hit, seek-miss, seek-end}
