@@ -1,3 +1,4 @@
--- What the five calls mean, and what they write to a move list.
+-- What the five calls mean, what they write to a move list, and what a fault answers by the numbers that it keeps.
 pub mod Table
 pub mod Calls
+pub mod OnePass

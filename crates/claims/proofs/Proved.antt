@@ -7,7 +7,7 @@ use Rattle.colours.proofs.Theorems as colour
 use Rattle.calls.specs.Table.{choices}
 use Rattle.calls.proofs.Choice.{Chosen, chosen, choice-local}
 use Rattle.isolation.proofs.Theorems as history
-use Rattle.kept.proofs.OnePass as pass
+use Rattle.calls.proofs.OnePass as pass
 use Rattle.supply.proofs.Laws as law
 use Rattle.times.proofs.Planner as planner
 use Rattle.times.proofs.Added.{added-rows-change-nothing}

@@ -1,5 +1,5 @@
--- A fault takes in each word of the table once and keeps few numbers between words: document 02, No. 2. `kept/specs/Kept.antt` says what is kept, and
--- what one word more makes of it. The numbers kept are those of `Kept`, after the words xs of the blocks before, and the words bs, as they are, of
+-- A fault takes in each word of the table once and keeps few numbers between words: document 02, No. 2. `kept/specs/Kept.antt` says what is kept and
+-- what one word more makes of it, `calls/specs/OnePass.antt` what of it answers the fault. The numbers kept are those of `Kept`, after the words xs of the blocks before, and the words bs, as they are, of
 -- the block of sixteen frames under way; so xs and bs together are any first part of the table, and ys the words after it.
 use Prim.Native.Nat.{ℕ, _<_, _≤_}
 use mathlib.Core.Bool.{true, false}
@@ -12,7 +12,8 @@ use Rattle.refusal.specs.Reply.{passes}
 use Rattle.board.specs.declared.Board.{Board}
 use Rattle.calls.specs.Table.{stateOf, wordOf}
 use Rattle.calls.specs.Calls.{pageTests, fault}
-use Rattle.kept.specs.Kept.{after, answer, taker, withWord, numbers}
+use Rattle.calls.specs.OnePass.{after, answer, taker, withWord}
+use Rattle.kept.specs.Kept.{numbers}
 
 pub record OnePassClaims : Type 0 where
   -- Where 2 to 10 pass, the numbers kept after any first part of the table, with the words after it, give the fault's answer and the frame that gets

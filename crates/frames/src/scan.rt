@@ -8,7 +8,7 @@ ghost use lib.ListN.{length};
 ghost use Rattle.lists.specs.Range.{keep, upto, any, lowestFrom};
 ghost use Rattle.colours.specs.Cache.{isColourCount};
 ghost use Rattle.calls.specs.Table.{wordOf, isOf, inSet, hasWord, isFree, isStray};
-ghost use Rattle.kept.specs.Kept.{lanesOf};
+ghost use Rattle.calls.specs.OnePass.{lanesOf};
 
 // The word of a frame that a domain holds for a page.
 pub(crate) fn word_for(domain: u32, page: u32) -> u16

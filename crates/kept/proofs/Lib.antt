@@ -1,4 +1,2 @@
--- The laws of `kept`, and the theorem on the one pass.
+-- The laws of `kept`.
 pub mod Closed
-pub mod Lanes
-pub mod OnePass

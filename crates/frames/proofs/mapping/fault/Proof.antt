@@ -11,9 +11,10 @@ use Rattle.board.specs.Paper.{paperChecked}
 use Rattle.calls.specs.Table.{wordOf}
 use Rattle.calls.specs.Calls.{Old, New, fault, pageTests}
 use Rattle.kept.specs.declared.Kept.{Kept}
-use Rattle.kept.specs.Kept.{lanesOf, start, takeAll, after}
+use Rattle.calls.specs.OnePass.{lanesOf, after}
+use Rattle.kept.specs.Kept.{start, takeAll}
 use Rattle.kept.proofs.Closed.{Sound}
-use Rattle.kept.proofs.OnePass.{end-sound, old-frame, new-frame, no-frame}
+use Rattle.calls.proofs.OnePass.{end-sound, old-frame, new-frame, no-frame}
 use Rattle.frames.specs.Steps.{pageReply}
 use Rattle.frames.proofs.Called.{told-by, page-refused, page-passes, page-accepted}
 use Rattle.frames.proofs.mapping.fault.Statement.{statement}

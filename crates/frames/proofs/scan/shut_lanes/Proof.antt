@@ -8,8 +8,8 @@ use lib.ListN.{length, getD, take, drop, replicate, length-set}
 use lib.Seq.{take-all}
 use borrow.Author.Needs.{needs}
 use Rattle.lists.proofs.Written.{write-next}
-use Rattle.kept.specs.Kept.{lanesOf}
-use Rattle.kept.proofs.Lanes.{lane-inside, lane-outside, lanes-count, lane-is}
+use Rattle.calls.specs.OnePass.{lanesOf}
+use Rattle.calls.proofs.Lanes.{lane-inside, lane-outside, lanes-count, lane-is}
 use Rattle.frames.proofs.scan.shut_lanes.Statement.{statement}
 use Rattle.frames.proofs.scan.shut_lanes.Tie as tie
 

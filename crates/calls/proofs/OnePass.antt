@@ -18,13 +18,14 @@ use Rattle.refusal.proofs.Order.{passed-earlier}
 use Rattle.board.specs.declared.Board.{Board}
 use Rattle.board.specs.Tests.{activeSet, callTests, callReply}
 use Rattle.board.proofs.Passed.{Accepted, accepted}
 use Rattle.calls.specs.Table.{State, stateOf, wordOf, inSet, hasWord, isFree, framesWith, mappedTo, isChoice, choices}
 use Rattle.calls.specs.Calls.{Outcome, Old, New, settle, pageTest, pageTests, written, faultDone, fault}
 use Rattle.calls.proofs.Settled.{ten-passed}
 use Rattle.kept.specs.declared.Kept.{Kept}
-use Rattle.kept.specs.Kept.{lanesOf, noLane, start, after, answerOf, takerOf, answer, taker, withWord, numbers}
+use Rattle.kept.specs.Kept.{noLane, start, numbers}
+use Rattle.calls.specs.OnePass.{lanesOf, after, answerOf, takerOf, answer, taker, withWord}
 use Rattle.kept.proofs.Closed.{found, unmapped, settled, settled-word, settled-free, settled-none, isTaken, take-append, in-the-end, Sound, sound}
-use Rattle.kept.proofs.Lanes.{lanes-count, lane-flags, lane-is-open}
+use Rattle.calls.proofs.Lanes.{lanes-count, lane-flags, lane-is-open}
 
 first-part : (b : Board) (d p : ℕ) (xs : List ℕ) → Sound (wordOf d p) 0 xs (after b d p xs)
 unfolding after start

@@ -14,8 +14,9 @@ use Rattle.lists.proofs.Members.{member-has}
 use Rattle.lists.proofs.Written.{length-table, table-entry}
 use Rattle.colours.specs.Cache.{isColourCount}
 use Rattle.colours.specs.Sets.{has}
 use Rattle.calls.specs.Table.{inSet}
-use Rattle.kept.specs.Kept.{isOpen, laneOf, lanesOf}
+use Rattle.kept.specs.Kept.{isOpen}
+use Rattle.calls.specs.OnePass.{laneOf, lanesOf}
 
 module _ (n c : ℕ) where
   pub lane-inside : (i : ℕ) → inSet n c i ≡ true → laneOf n c i ≡ 0
