@@ -1,5 +1,5 @@
 -- The theorem of document 02, No. 2: the numbers kept after any first part of the table, with the words after it, give the fault's answer and the
--- frame that gets the word.
+-- frame that gets the word; and that these numbers are few and small. The code of the fault goes by its three cases at the end.
 use Prim.Native.Nat.{ℕ, _+_, _-_, _<_, _≤_}
 use native.Mathlib.Omega.{arith}
 use mathlib.Core.Bool.{Bool, true, false, _&&_}
@@ -31,7 +31,7 @@ first-part : (b : Board) (d p : ℕ) (xs : List ℕ) → Sound (wordOf d p) 0 xs
 unfolding after start
 first-part b d p xs = sound (wordOf d p) 0 xs (lanesOf (b .colours) (activeSet b d)) (lanes-count (b .colours) (activeSet b d)) (lane-flags (b .colours) (activeSet b d))
 
--- twenty numbers, and the words of a block of sixteen: each fits in 16 bits
+-- lists of numbers that fit in 16 bits
 over-either : (xs ys : List ℕ) → any (ltb 65535) xs ≡ false → any (ltb 65535) ys ≡ false → any (ltb 65535) (xs ++ ys) ≡ false
 over-either [] ys e h = h
 over-either (x ∷ xs) ys e h = let r = neither (ltb 65535 x) (any (ltb 65535) xs) e in rw (r .0) (over-either xs ys (r .1) h)
@@ -42,6 +42,7 @@ over-flags (x ∷ xs) e =
     let r = neither (ltb 1 x) (any (ltb 1) xs) e in
     rw (le-ltb 65535 x (omega (arith, ltb-false 1 x (r .0)))) (over-flags xs (r .1))
 
+-- twenty numbers, and the words of a block of sixteen
 pub few-numbers :
     (b : Board) (d p : ℕ) (xs bs : List ℕ) → d < 8 → p ≤ 4095 → length xs ≤ 4096 → length bs ≤ 16 → any (ltb 65535) bs ≡ false
     → (length (numbers (after b d p xs) bs) ≤ 64) × (any (ltb 65535) (numbers (after b d p xs) bs) ≡ false)
@@ -101,6 +102,10 @@ module _ (b : Board) (d p : ℕ) (t : List ℕ) (ok : passes (pageTests b (lengt
   abbrev given : Kept → Outcome
   given k = record { reply = answerOf k; moves = []; next = stateOf b (withWord (takerOf k) w t) }
 
+  abbrev lanes : List ℕ
+  lanes = lanesOf (b .colours) (activeSet b d)
+
+  -- the lowest frame with the word, and the lowest that would be taken
   abbrev m : ℕ
   m = lowest holds n
 
@@ -123,12 +128,9 @@ module _ (b : Board) (d p : ℕ) (t : List ℕ) (ok : passes (pageTests b (lengt
   unfolding answerOf takerOf withWord unless settle
   by-free h l = simp (there g, number g) (sym (fault-is ∙ ap₂ faulted (kept-missed holds n h) (kept-found free n l)))
 
-  by-none : n ≤ m → n ≤ g → given (unmapped w 0 t (0 + n) (lanesOf (b .colours) (activeSet b d)) 0) ≡ fault s d p
+  by-none : n ≤ m → n ≤ g → given (unmapped w 0 t (0 + n) lanes 0) ≡ fault s d p
   unfolding answerOf takerOf withWord unless settle
   by-none h l = sym (fault-is ∙ ap₂ faulted (kept-missed holds n h) (kept-missed free n l))
-
-  abbrev lanes : List ℕ
-  lanes = lanesOf (b .colours) (activeSet b d)
 
   -- an open lane is one with an active colour
   free-in-lane : lowest (isTaken w 0 t lanes) n ≡ g
