@@ -2,11 +2,11 @@
 -- its words, by the lowest lane with the page's word and the lowest open lane with a free frame.
 use Prim.Native.Nat.{ℕ, _+_, _%_, _<_, _≤_}
 use native.Mathlib.Omega.{arith}
-use mathlib.Core.Bool.{Bool, false, _&&_}
+use mathlib.Core.Bool.{Bool, false, _&&_, and-true}
 use mathlib.Core.List.{List}
 use mathlib.Core.Path.{_≡_, sym, ap, ap₂, _∙_}
 use lib.Dec.{eqb}
-use lib.ListN.{length, getD, take}
+use lib.ListN.{length, getD, take, replicate, getD-replicate}
 use lib.Seq.{length-take-le, getD-take}
 use Rattle.lists.specs.Range.{upto, any, lowest}
 use Rattle.lists.proofs.Split.{neither}
@@ -14,7 +14,7 @@ use Rattle.lists.proofs.Found.{any-none, none-lowest}
 use Rattle.lists.proofs.Same.{same-lowest}
 use Rattle.kept.specs.declared.Kept.{Kept}
 use Rattle.kept.specs.Kept.{noLane, takeAll}
-use Rattle.pass.specs.Steps.{matters, AtBlock}
+use Rattle.pass.specs.Steps.{inLane, matters, AtBlock}
 use Rattle.kept.proofs.Closed.{found, unmapped, settled, settled-word, settled-free, settled-none, isTaken, in-the-end}
 
 -- the front of a block is searched like the block
@@ -24,6 +24,12 @@ same-front p block filled l =
     (λ i h. ap (λ (x : ℕ). p x i) (sym (getD-take filled block i 0 h)))
     ∙ ap (lowest (λ (i : ℕ). p (getD (take filled block) i 0) i)) (sym (length-take-le filled block l))
 
+-- where all lanes are open, the word alone counts
+any-lane : (block : List ℕ) (w filled : ℕ) → filled ≤ 16 → lowest (inLane block w (replicate 16 0)) filled ≡ lowest (λ (i : ℕ). eqb (getD block i 0) w) filled
+any-lane block w filled l =
+    same-lowest (inLane block w (replicate 16 0)) (λ (i : ℕ). eqb (getD block i 0) w) filled
+    (λ i h. ap (λ (x : ℕ). eqb (getD block i 0) w && eqb x 0) (getD-replicate {A = ℕ} 16 i 0 0 (omega arith)) ∙ and-true (eqb (getD block i 0) w))
+
 module _ (k : Kept) (xs : List ℕ) (at : AtBlock k (length xs)) where
   abbrev n : ℕ
   n = length xs
@@ -31,14 +37,11 @@ module _ (k : Kept) (xs : List ℕ) (at : AtBlock k (length xs)) where
   abbrev shut : List ℕ
   shut = k .shut
 
-  abbrev isFree : ℕ → Bool
-  isFree i = eqb (getD xs i 0) 0 && eqb (getD shut i 0) 0
-
   abbrev pub wordLane : ℕ
   wordLane = lowest (λ (i : ℕ). eqb (getD xs i 0) (k .word)) n
 
   abbrev pub openLane : ℕ
-  openLane = lowest isFree n
+  openLane = lowest (inLane xs 0 shut) n
 
   kept-is : k ≡ unmapped (k .word) (k .taken) xs (k .taken) shut (k .free)
   kept-is = λ j. record { word = k .word; shut = shut; taken = k .taken; mapped = at .unmapped j; free = k .free }
@@ -48,7 +51,7 @@ module _ (k : Kept) (xs : List ℕ) (at : AtBlock k (length xs)) where
 
   lanes-are : lowest (isTaken (k .word) (k .taken) xs shut) n ≡ openLane
   lanes-are =
-      same-lowest (isTaken (k .word) (k .taken) xs shut) isFree n
+      same-lowest (isTaken (k .word) (k .taken) xs shut) (inLane xs 0 shut) n
       (λ i l. ap (λ (j : ℕ). eqb (getD xs i 0) 0 && eqb (getD shut j 0) 0) (lane-of i l))
 
   took : takeAll k xs ≡ settled (k .word) (k .taken) xs shut (k .free) wordLane openLane
@@ -69,9 +72,9 @@ module _ (k : Kept) (xs : List ℕ) (at : AtBlock k (length xs)) where
   -- no word of it matters
   pub quiet : any (matters xs (k .word) shut) (upto n) ≡ false → takeAll k xs ≡ unmapped (k .word) (k .taken) xs (k .taken + n) shut (k .free)
   quiet e =
-      let none : (i : ℕ) → i < n → (eqb (getD xs i 0) (k .word) ≡ false) × (isFree i ≡ false) = λ i l. neither (eqb (getD xs i 0) (k .word)) (isFree i) (any-none (matters xs (k .word) shut) n i e l) in
+      let none : (i : ℕ) → i < n → (eqb (getD xs i 0) (k .word) ≡ false) × (inLane xs 0 shut i ≡ false) = λ i l. neither (eqb (getD xs i 0) (k .word)) (inLane xs 0 shut i) (any-none (matters xs (k .word) shut) n i e l) in
       by-neither (omega (arith, none-lowest (λ (i : ℕ). eqb (getD xs i 0) (k .word)) n (λ i l. none i l .0)))
-      (omega (arith, none-lowest isFree n (λ i l. none i l .1)))
+      (omega (arith, none-lowest (inLane xs 0 shut) n (λ i l. none i l .1)))
 
 -- the words in front of an array, which is looked through
 module _ (k : Kept) (block : List ℕ) (filled : ℕ) (at : AtBlock k filled) (size : length block ≡ 16) where
@@ -84,14 +87,14 @@ module _ (k : Kept) (block : List ℕ) (filled : ℕ) (at : AtBlock k filled) (s
   at-front : AtBlock k (length xs)
   at-front = rw long at
 
-  module _ (w : ℕ) (w-is : w ≡ lowest (λ (i : ℕ). eqb (getD block i 0) (k .word)) filled) where
+  module _ (w : ℕ) (w-is : w ≡ lowest (inLane block (k .word) (replicate 16 0)) filled) where
     word-is : w ≡ wordLane k xs at-front
-    word-is = w-is ∙ same-front (λ (x i : ℕ). eqb x (k .word)) block filled (omega (arith, at .few))
+    word-is = w-is ∙ any-lane block (k .word) filled (at .few) ∙ same-front (λ (x i : ℕ). eqb x (k .word)) block filled (omega (arith, at .few))
 
     pub front-word : w < filled → record { word = k .word; shut = noLane; taken = k .taken + w + 1; mapped = k .taken + w + 1; free = 0 } ≡ takeAll k xs
     front-word l = rw word-is (sym (by-word-lane k xs at-front (omega (arith, word-is, long))))
 
-    module _ (o : ℕ) (o-is : o ≡ lowest (λ (i : ℕ). eqb (getD block i 0) 0 && eqb (getD (k .shut) i 0) 0) filled) (h : filled ≤ w) where
+    module _ (o : ℕ) (o-is : o ≡ lowest (inLane block 0 (k .shut)) filled) (h : filled ≤ w) where
       open-is : o ≡ openLane k xs at-front
       open-is = o-is ∙ same-front (λ (x i : ℕ). eqb x 0 && eqb (getD (k .shut) i 0) 0) block filled (omega (arith, at .few))
 

@@ -7,9 +7,13 @@ use lib.Dec.{eqb}
 use lib.ListN.{getD}
 use Rattle.kept.specs.declared.Kept.{Kept}
 
--- word i of a block is w, or is that of a free frame in an open lane
+-- word i of a block is w, and its lane is open
+abbrev pub inLane : List ℕ → ℕ → List ℕ → ℕ → Bool
+inLane xs w shut i = eqb (getD xs i 0) w && eqb (getD shut i 0) 0
+
+-- it is w, or is that of a free frame in an open lane
 abbrev pub matters : List ℕ → ℕ → List ℕ → ℕ → Bool
-matters xs w shut i = eqb (getD xs i 0) w || (eqb (getD xs i 0) 0 && eqb (getD shut i 0) 0)
+matters xs w shut i = eqb (getD xs i 0) w || inLane xs 0 shut i
 
 -- what is kept while the page's word has not come
 abbrev pub soFar : ℕ → List ℕ → ℕ → ℕ → Kept

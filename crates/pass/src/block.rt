@@ -2,14 +2,12 @@
 // found on the way, all lanes alike, so that the compiler compares them at once. Only where one does is the
 // array looked through, and not the table again.
 ghost use mathlib.Core.Path.{_≡_};
-ghost use mathlib.Core.Bool.{_&&_};
 ghost use mathlib.Core.List.{_++_};
-ghost use Prim.Native.Nat.{ℕ, _≤_};
-ghost use lib.Dec.{eqb};
-ghost use lib.ListN.{length, getD, take, drop};
+ghost use Prim.Native.Nat.{_≤_};
+ghost use lib.ListN.{length, take, drop};
 ghost use Rattle.lists.specs.Range.{upto, any, lowest};
 ghost use Rattle.kept.specs.Kept.{takeAll};
-ghost use Rattle.pass.specs.Steps.{matters, soFar, AtBlock};
+ghost use Rattle.pass.specs.Steps.{inLane, matters, soFar, AtBlock};
 use kept::Kept;
 
 // Reads the words, and says whether one of them is the page's, or is that of a free frame in an open lane.
@@ -30,29 +28,14 @@ pub(crate) fn take_in(words: &[u16], word: u16, shut: &[u16; 16], block: &mut [u
     found
 }
 
-// The lowest lane of a block with a word.
-fn word_lane(block: [u16; 16], filled: usize, word: u16) -> usize
+// The lowest open lane of a block with a word.
+fn lane_of(block: [u16; 16], filled: usize, word: u16, shut: [u16; 16]) -> usize
     requires { ⌜ filled ≤ 16 ⌝ }
-    ensures { λ r. ⌜ r ≡ lowest (λ (i : ℕ). eqb (getD block i 0) word) filled ⌝ }
+    ensures { λ r. ⌜ r ≡ lowest (inLane block word shut) filled ⌝ }
 {
     let mut i: usize = 0;
     while i < filled {
-        if block[i] == word {
-            return i;
-        }
-        i += 1;
-    }
-    i
-}
-
-// The lowest open lane of a block with a free frame.
-fn open_lane(block: [u16; 16], filled: usize, shut: [u16; 16]) -> usize
-    requires { ⌜ filled ≤ 16 ⌝ }
-    ensures { λ r. ⌜ r ≡ lowest (λ (i : ℕ). eqb (getD block i 0) 0 && eqb (getD shut i 0) 0) filled ⌝ }
-{
-    let mut i: usize = 0;
-    while i < filled {
-        if (block[i] == 0) & (shut[i] == 0) {
+        if (block[i] == word) & (shut[i] == 0) {
             return i;
         }
         i += 1;
@@ -78,7 +61,7 @@ pub(crate) fn settle(kept: Kept, block: [u16; 16], filled: usize) -> Kept
     requires { ⌜ AtBlock kept filled ⌝ }
     ensures { λ r. ⌜ r ≡ takeAll kept (take filled block) ⌝ }
 {
-    let lane = word_lane(block, filled, kept.word);
+    let lane = lane_of(block, filled, kept.word, [0; 16]);
     if lane < filled {
         let found = kept.taken + lane + 1;
         return Kept {
@@ -91,7 +74,7 @@ pub(crate) fn settle(kept: Kept, block: [u16; 16], filled: usize) -> Kept
     }
     let shut = kept.shut;
     let taken = kept.taken + filled;
-    let open = open_lane(block, filled, shut);
+    let open = lane_of(block, filled, 0, shut);
     if open < filled {
         return so_far(kept.word, [1; 16], taken, kept.taken + open + 1);
     }

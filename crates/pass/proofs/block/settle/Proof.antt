@@ -8,18 +8,18 @@ use Rattle.pass.proofs.Blocks.{front-word, front-open, front-neither}
 use Rattle.pass.proofs.block.settle.Statement.{statement}
 use Rattle.pass.proofs.block.settle.Tie as tie
 
--- earlier places of the code: the entry, and the search for the word
-abbrev entry : tie.After-word-lane → tie.Start
+-- earlier places of the code: the entry, and the search for the page's word
+abbrev entry : tie.After-lane-of → tie.Start
 entry c = c .before
 
-abbrev searched : tie.After-open-lane → tie.After-word-lane
+abbrev searched : tie.After-lane-of2 → tie.After-lane-of
 searched c = c .before .before .before .before
 
 size : (s : tie.Start) → length (s .args .block) ≡ 16
 size s = search needs
 
-word-lane-requires : tie.Need-word-lane-requires
-word-lane-requires c κs = search needs
+lane-of-requires : tie.Need-lane-of-requires
+lane-of-requires c κs = search needs
 
 add-found : tie.Need-add-found
 add-found c = search needs
@@ -31,13 +31,13 @@ returns : tie.Need-returns
 unfolding noLane
 returns c =
     let s = entry (c .before .before) in
-    front-word (s .args .kept) (s .args .block) (s .args .filled) (s .pre) (size s) _ (c .before .before .word-lane .ensures) (omega arith)
+    front-word (s .args .kept) (s .args .block) (s .args .filled) (s .pre) (size s) _ (c .before .before .lane-of .ensures) (omega arith)
 
 add-taken : tie.Need-add-taken
 add-taken c = search needs
 
-open-lane-requires : tie.Need-open-lane-requires
-open-lane-requires c κs = search needs
+lane-of-requires-2 : tie.Need-lane-of-requires-2
+lane-of-requires-2 c κs = search needs
 
 add-so-far : tie.Need-add-so-far
 add-so-far c = search needs
@@ -54,7 +54,7 @@ returns-2 c =
     let o = c .before .before .before in
     let s = entry (searched o) in
     c .so-far .ensures
-    ∙ front-open (s .args .kept) (s .args .block) (s .args .filled) (s .pre) (size s) _ (searched o .word-lane .ensures) _ (o .open-lane .ensures) (omega arith) (omega arith)
+    ∙ front-open (s .args .kept) (s .args .block) (s .args .filled) (s .pre) (size s) _ (searched o .lane-of .ensures) _ (o .lane-of2 .ensures) (omega arith) (omega arith)
 
 so-far-requires-2 : tie.Need-so-far-requires-2
 so-far-requires-2 c κs = search needs
@@ -64,18 +64,18 @@ returns-3 c =
     let o = c .before .before in
     let s = entry (searched o) in
     c .so-far2 .ensures
-    ∙ front-neither (s .args .kept) (s .args .block) (s .args .filled) (s .pre) (size s) _ (searched o .word-lane .ensures) _ (o .open-lane .ensures) (omega arith) (omega arith)
+    ∙ front-neither (s .args .kept) (s .args .block) (s .args .filled) (s .pre) (size s) _ (searched o .lane-of .ensures) _ (o .lane-of2 .ensures) (omega arith) (omega arith)
 
 pub settle-spec : {M : Type 1} → statement M
 settle-spec =
     tie.close
     (tie.spec
-    word-lane-requires
+    lane-of-requires
     add-found
     add-found-2
     returns
     add-taken
-    open-lane-requires
+    lane-of-requires-2
     add-so-far
     add-so-far-2
     so-far-requires
