@@ -13,18 +13,16 @@ use Rattle.lists.proofs.Split.{below-or-not, neither}
 use Rattle.lists.proofs.Found.{kept-found, kept-missed}
 use Rattle.lists.proofs.Same.{same-lowest}
 use Rattle.refusal.specs.Reply.{Answers, Refuses, test, unless, passes}
-use Rattle.refusal.proofs.Replies.{passed-answers}
-use Rattle.refusal.proofs.Order.{passed-earlier}
 use Rattle.board.specs.declared.Board.{Board}
-use Rattle.board.specs.Tests.{activeSet, callTests, callReply}
-use Rattle.board.proofs.Passed.{Accepted, accepted}
+use Rattle.board.specs.Tests.{activeSet}
+use Rattle.board.proofs.Passed.{Accepted}
 use Rattle.calls.specs.Table.{State, stateOf, wordOf, inSet, hasWord, isFree, framesWith, mappedTo, isChoice, choices}
-use Rattle.calls.specs.Calls.{Outcome, Old, New, settle, pageTest, pageTests, written, faultDone, fault}
-use Rattle.calls.proofs.Settled.{ten-passed}
+use Rattle.calls.specs.Calls.{Outcome, Old, New, settle, pageTests, written, faultDone, fault}
+use Rattle.calls.proofs.Settled.{ten-passed, ten-accepted}
 use Rattle.kept.specs.declared.Kept.{Kept}
-use Rattle.kept.specs.Kept.{noLane, start, numbers}
+use Rattle.kept.specs.Kept.{noLane, start, numbers, soFar, found}
 use Rattle.calls.specs.OnePass.{lanesOf, after, answerOf, takerOf, answer, taker, withWord}
-use Rattle.kept.proofs.Closed.{found, unmapped, settled, settled-word, settled-free, settled-none, isTaken, take-append, in-the-end, Sound, sound}
+use Rattle.kept.proofs.Closed.{settled, settled-word, settled-free, settled-none, isTaken, take-append, in-the-end, Sound, sound}
 use Rattle.calls.proofs.Lanes.{lanes-count, lane-flags, lane-is-open}
 
 first-part : (b : Board) (d p : ℕ) (xs : List ℕ) → Sound (wordOf d p) 0 xs (after b d p xs)
@@ -71,8 +69,7 @@ module _ (b : Board) (d p : ℕ) (t : List ℕ) (ok : passes (pageTests b (lengt
   w = wordOf d p
 
   fine : Accepted b n d
-  unfolding callReply
-  fine = accepted b n d (passed-answers (callTests b n d) (tt {0}) (passed-earlier (callTests b n d) (pageTest p ∷ []) ok))
+  fine = ten-accepted b n d p ok .0
 
   abbrev holds : ℕ → Bool
   holds = hasWord t w
@@ -120,15 +117,15 @@ module _ (b : Board) (d p : ℕ) (t : List ℕ) (ok : passes (pageTests b (lengt
     number : 0 + f + 1 - 1 ≡ f
     number = omega arith
 
-  by-word : m < n → given (found w 0 t (0 + m + 1)) ≡ fault s d p
+  by-word : m < n → given (found w (0 + m + 1)) ≡ fault s d p
   unfolding answerOf takerOf withWord unless settle
   by-word l = simp (there m, number m) (sym (fault-is ∙ ap (λ (fs : List ℕ). faulted fs (keep free (upto n))) (kept-found holds n l)))
 
-  by-free : n ≤ m → g < n → given (unmapped w 0 t (0 + n) noLane (0 + g + 1)) ≡ fault s d p
+  by-free : n ≤ m → g < n → given (soFar w noLane (0 + n) (0 + g + 1)) ≡ fault s d p
   unfolding answerOf takerOf withWord unless settle
   by-free h l = simp (there g, number g) (sym (fault-is ∙ ap₂ faulted (kept-missed holds n h) (kept-found free n l)))
 
-  by-none : n ≤ m → n ≤ g → given (unmapped w 0 t (0 + n) lanes 0) ≡ fault s d p
+  by-none : n ≤ m → n ≤ g → given (soFar w lanes (0 + n) 0) ≡ fault s d p
   unfolding answerOf takerOf withWord unless settle
   by-none h l = sym (fault-is ∙ ap₂ faulted (kept-missed holds n h) (kept-missed free n l))
 

@@ -1,15 +1,18 @@
 -- What the reply of a call says of its tests: a refusal is theirs, and where it answers they all pass. In a call that names a page 10 comes right
--- after 2 to 8, and where these pass the call's own tests settle it.
-use Prim.Native.Nat.{ℕ}
+-- after 2 to 8, and where these pass the call's own tests settle it; and what these leave of the board, the domain and the page.
+use Prim.Native.Nat.{ℕ, _≤_}
 use mathlib.Core.Bool.{true}
 use mathlib.Core.List.{List, [], _∷_, _++_, append-assoc}
 use mathlib.Core.Path.{_≡_, refl, ap, _∙_}
 use lib.ListN.{length}
+use borrow.Author.Tests.{ltb-false}
 use Rattle.lists.proofs.Split.{cases}
 use Rattle.refusal.specs.Reply.{Answers, Refuses, Test, unless, passes}
-use Rattle.refusal.proofs.Replies.{passed-answers}
-use Rattle.refusal.proofs.Order.{unless-passed}
-use Rattle.board.specs.Tests.{callTests}
+use Rattle.refusal.proofs.Replies.{passed-first, passed-answers}
+use Rattle.refusal.proofs.Order.{unless-passed, passed-earlier, passed-later}
+use Rattle.board.specs.declared.Board.{Board}
+use Rattle.board.specs.Tests.{callTests, callReply}
+use Rattle.board.proofs.Passed.{Accepted, accepted}
 use Rattle.calls.specs.Table.{State}
 use Rattle.calls.specs.Calls.{Answer, Done, settle, called, pageTest, pageTests}
 
@@ -36,3 +39,11 @@ module _ (s : State) (d p : ℕ) (own : List Test) (done : Done) where
 
   pub ten-passed : passes tests ≡ true → called s d (pageTest p ∷ own) done ≡ settle s (unless own done)
   ten-passed e = ten-first ∙ ap (settle s) (unless-passed (tt {0}) done tests own (passed-answers tests (tt {0}) e))
+
+-- what 2 to 8 and 10 give
+pub ten-accepted : (b : Board) (words d p : ℕ) → passes (pageTests b words d p) ≡ true → Accepted b words d × (p ≤ 4095)
+unfolding callReply
+ten-accepted b words d p e =
+    let ten = passed-later (callTests b words d) (pageTest p ∷ []) e in
+    let eight = passed-earlier (callTests b words d) (pageTest p ∷ []) e in
+    (accepted b words d (passed-answers (callTests b words d) (tt {0}) eight), ltb-false 4095 p (passed-first (pageTest p) [] ten .0))

@@ -1,19 +1,18 @@
 -- From the reply of 2 to 8, or of 2 to 8 and 10, to the outcome of a call: a refusal settles it, and otherwise the call's own tests do.
 use Prim.Native.Nat.{ℕ, _≤_}
-use mathlib.Core.List.{List, [], _∷_, _++_}
 use mathlib.Core.Bool.{true}
+use mathlib.Core.List.{List, [], _∷_, _++_}
 use mathlib.Core.Path.{_≡_, sym, ap, _∙_}
 use lib.ListN.{length}
-use borrow.Author.Tests.{ltb-false}
 use Rattle.refusal.specs.Reply.{Answers, Refuses, Test, unless, passes}
-use Rattle.refusal.proofs.Replies.{passed-first, passed-answers, answers-passed}
-use Rattle.refusal.proofs.Order.{unless-refused, unless-passed, passed-earlier, passed-later}
+use Rattle.refusal.proofs.Replies.{answers-passed}
+use Rattle.refusal.proofs.Order.{unless-refused, unless-passed}
 use Rattle.board.specs.declared.Board.{Board}
 use Rattle.board.specs.Tests.{callTests, callReply}
-use Rattle.board.proofs.Passed.{Accepted, accepted}
+use Rattle.board.proofs.Passed.{Accepted}
 use Rattle.calls.specs.Table.{State}
-use Rattle.calls.proofs.Settled.{ten-first}
 use Rattle.calls.specs.Calls.{Answer, Done, Outcome, settle, called, pageTest, pageTests}
+use Rattle.calls.proofs.Settled.{ten-first, ten-passed, ten-accepted}
 use Rattle.frames.specs.Steps.{pageReply}
 
 -- a call that is refused, and one that answers and changes nothing
@@ -26,6 +25,11 @@ answered s a = record { reply = Answers a; moves = []; next = s }
 -- what the outcome of a call on the table says: its reply, and the table that it leaves
 pub told-by : (o p : Outcome) → o ≡ p → (p .reply ≡ o .reply) × (p .next .table ≡ o .next .table)
 told-by o p e = (sym (ap (λ (q : Outcome). q .reply) e), sym (ap (λ (q : Outcome). q .next .table) e))
+
+-- 2 to 8 and 10 pass where they do not refuse
+pub page-passes : (b : Board) (words d p : ℕ) → pageReply b words d p ≡ Answers tt → passes (pageTests b words d p) ≡ true
+unfolding pageReply
+page-passes b words d p e = answers-passed (pageTests b words d p) (tt {0}) tt e .0
 
 module _ (s : State) (d : ℕ) (own : List Test) (done : Done) where
   abbrev first : List Test
@@ -48,8 +52,7 @@ module _ (s : State) (d : ℕ) (own : List Test) (done : Done) where
 
     pub page-passed :
         pageReply (s .board) (length (s .table)) d p ≡ Answers tt → called s d (pageTest p ∷ own) done ≡ settle s (unless own done)
-    unfolding pageReply
-    page-passed e = ten-first s d p own done ∙ ap (settle s) (unless-passed (tt {0}) done (first ++ (pageTest p ∷ [])) own e)
+    page-passed e = ten-passed s d p own done (page-passes (s .board) (length (s .table)) d p e)
 
 -- 10 comes after 2 to 8
 module _ (b : Board) (words d p : ℕ) where
@@ -61,15 +64,6 @@ module _ (b : Board) (words d p : ℕ) where
   unfolding callReply pageReply
   ten-left = unless-passed (tt {0}) (tt {0}) (callTests b words d) (pageTest p ∷ [])
 
-  pub page-passes : pageReply b words d p ≡ Answers tt → passes (pageTests b words d p) ≡ true
-  unfolding pageReply
-  page-passes e = answers-passed (pageTests b words d p) (tt {0}) tt e .0
-
   -- what 2 to 8 and 10 give
   pub page-accepted : pageReply b words d p ≡ Answers tt → Accepted b words d × (p ≤ 4095)
-  unfolding pageReply callReply
-  page-accepted e =
-      let all = answers-passed (callTests b words d ++ (pageTest p ∷ [])) (tt {0}) tt e .0 in
-      let ten = passed-later (callTests b words d) (pageTest p ∷ []) all in
-      let eight = passed-earlier (callTests b words d) (pageTest p ∷ []) all in
-      (accepted b words d (passed-answers (callTests b words d) (tt {0}) eight), ltb-false 4095 p (passed-first (pageTest p) [] ten .0))
+  page-accepted e = ten-accepted b words d p (page-passes b words d p e)

@@ -27,7 +27,7 @@ fn in_set(colours: usize, set: u32, frame: usize) -> bool
     (set >> ((frame & (colours - 1)) as u32)) % 2 == 1
 }
 
-// The lanes of sixteen frames whose colour is not in a set.
+// By lane, that is by a frame's number modulo sixteen, 0 where its colour is in a set, else 1.
 pub(crate) fn shut_lanes(colours: usize, set: u32) -> [u16; 16]
     requires { ⌜ isColourCount colours ≡ true ⌝ }
     ensures { λ r. ⌜ r ≡ lanesOf colours set ⌝ }

@@ -17,7 +17,7 @@ use Rattle.lists.proofs.Split.{cases, below-or-not, and-both}
 use Rattle.lists.proofs.Sought.{sought-hit, sought-miss, sought-end}
 use Rattle.lists.proofs.Found.{sought-past}
 use Rattle.kept.specs.declared.Kept.{Kept}
-use Rattle.kept.specs.Kept.{isOpen, noLane, takeIn, takeAll}
+use Rattle.kept.specs.Kept.{isOpen, noLane, soFar, found, takeIn, takeAll}
 
 -- nothing more is taken in once the page's frame is known
 pub known-stays : (k : Kept) (xs : List ℕ) → 0 < k .mapped → takeAll k xs ≡ k
@@ -46,17 +46,10 @@ module _ (w a : ℕ) (xs : List ℕ) where
   abbrev pub isTaken : List ℕ → ℕ → Bool
   isTaken shut i = eqb (getD xs i 0) 0 && isOpen shut (a + i)
 
-  -- after so many words: the page's word has come, with the last of them; it has not
-  abbrev pub found : ℕ → Kept
-  found f = record { word = w; shut = noLane; taken = f; mapped = f; free = 0 }
-
-  abbrev pub unmapped : ℕ → List ℕ → ℕ → Kept
-  unmapped f shut free = record { word = w; shut = shut; taken = f; mapped = 0; free = free }
-
   -- what is kept in the end, by the lowest word that is the page's, and the lowest that is free in an open lane
   abbrev pub settled : List ℕ → ℕ → ℕ → ℕ → Kept
   settled shut free m g =
-      if ltb m n then found (a + m + 1) else if ltb g n then unmapped (a + n) noLane (a + g + 1) else unmapped (a + n) shut free
+      if ltb m n then found w (a + m + 1) else if ltb g n then soFar w noLane (a + n) (a + g + 1) else soFar w shut (a + n) free
 
   -- the cases of taking in word i
   module _ (i : ℕ) (shut : List ℕ) (free : ℕ) where
@@ -64,9 +57,9 @@ module _ (w a : ℕ) (xs : List ℕ) where
     x = getD xs i 0
 
     abbrev here : Kept
-    here = unmapped (a + i) shut free
+    here = soFar w shut (a + i) free
 
-    by-word : isWord i ≡ true → takeIn here x ≡ found (a + i + 1)
+    by-word : isWord i ≡ true → takeIn here x ≡ found w (a + i + 1)
     unfolding takeIn
     by-word e = let same = eqb-true x w e in simp (eq-eqb x w same, eq-eqb w x (sym same))
 
@@ -74,22 +67,22 @@ module _ (w a : ℕ) (xs : List ℕ) where
       other : eqb w x ≡ false
       other = ne-eqb w x (λ same. eqb-false x w e (sym same))
 
-      by-free : eqb x 0 ≡ true → isOpen shut (a + i) ≡ true → takeIn here x ≡ unmapped (a + i + 1) noLane (a + i + 1)
+      by-free : eqb x 0 ≡ true → isOpen shut (a + i) ≡ true → takeIn here x ≡ soFar w noLane (a + i + 1) (a + i + 1)
       unfolding takeIn
       by-free f o = simp (e, other, f, o)
 
-      by-held : eqb x 0 ≡ false → takeIn here x ≡ unmapped (a + i + 1) shut free
+      by-held : eqb x 0 ≡ false → takeIn here x ≡ soFar w shut (a + i + 1) free
       unfolding takeIn
       by-held f = simp (e, other, f, and-true, and-false)
 
-      by-shut : isOpen shut (a + i) ≡ false → takeIn here x ≡ unmapped (a + i + 1) shut free
+      by-shut : isOpen shut (a + i) ≡ false → takeIn here x ≡ soFar w shut (a + i + 1) free
       unfolding takeIn
       by-shut o = simp (e, other, o, and-true, and-false)
 
-      by-taken : isTaken shut i ≡ true → takeIn here x ≡ unmapped (a + i + 1) noLane (a + i + 1)
+      by-taken : isTaken shut i ≡ true → takeIn here x ≡ soFar w noLane (a + i + 1) (a + i + 1)
       by-taken t = let r = and-both (eqb x 0) (isOpen shut (a + i)) t in by-free (r .0) (r .1)
 
-      by-other : isTaken shut i ≡ false → takeIn here x ≡ unmapped (a + i + 1) shut free
+      by-other : isTaken shut i ≡ false → takeIn here x ≡ soFar w shut (a + i + 1) free
       by-other t =
           cases (eqb x 0)
           (λ f. cases (isOpen shut (a + i)) (λ o. absurd (false≢true (sym t ∙ rw (f, o) refl))) by-shut)
@@ -101,13 +94,13 @@ module _ (w a : ℕ) (xs : List ℕ) where
 
   -- what is settled by which of the two has come
   module _ (shut : List ℕ) (free m g : ℕ) where
-    pub settled-word : m < n → settled shut free m g ≡ found (a + m + 1)
+    pub settled-word : m < n → settled shut free m g ≡ found w (a + m + 1)
     settled-word l = simp (lt-ltb m n l)
 
-    pub settled-free : n ≤ m → g < n → settled shut free m g ≡ unmapped (a + n) noLane (a + g + 1)
+    pub settled-free : n ≤ m → g < n → settled shut free m g ≡ soFar w noLane (a + n) (a + g + 1)
     settled-free h l = simp (le-ltb m n h, lt-ltb g n l)
 
-    pub settled-none : n ≤ m → n ≤ g → settled shut free m g ≡ unmapped (a + n) shut free
+    pub settled-none : n ≤ m → n ≤ g → settled shut free m g ≡ soFar w shut (a + n) free
     settled-none h l = simp (le-ltb m n h, le-ltb g n l)
 
   -- once a free frame is known, it is settled by the page's word alone
@@ -123,7 +116,7 @@ module _ (w a : ℕ) (xs : List ℕ) where
       (λ k.
       settled-none noLane (a + g + 1) m _ k (omega (arith, none-taken i h)) ∙ sym (settled-free shut free m g k l))
 
-  resumed : (r i : ℕ) (shut : List ℕ) (free : ℕ) → i + r ≡ n → takeAll (unmapped (a + i) shut free) (drop i xs) ≡ settled shut free (lowestFrom isWord i n) (lowestFrom (isTaken shut) i n)
+  resumed : (r i : ℕ) (shut : List ℕ) (free : ℕ) → i + r ≡ n → takeAll (soFar w shut (a + i) free) (drop i xs) ≡ settled shut free (lowestFrom isWord i n) (lowestFrom (isTaken shut) i n)
   unfolding takeAll
   resumed zero i shut free e =
       let all : n ≤ i = omega arith in
@@ -133,25 +126,25 @@ module _ (w a : ℕ) (xs : List ℕ) where
   resumed (suc r) i shut free e =
       let l : i < n = omega arith in
       let next : a + i + 1 ≡ a + (i + 1) = omega arith in
-      one-more i (unmapped (a + i) shut free) l
+      one-more i (soFar w shut (a + i) free) l
       ∙ cases (isWord i)
-      (λ w.
-      rw (by-word i shut free w, sought-hit isWord i n l w)
-      (known-stays (found (a + i + 1)) (drop (i + 1) xs) (omega arith) ∙ sym (settled-word shut free i _ l)))
-      (λ w.
+      (λ q.
+      rw (by-word i shut free q, sought-hit isWord i n l q)
+      (known-stays (found w (a + i + 1)) (drop (i + 1) xs) (omega arith) ∙ sym (settled-word shut free i _ l)))
+      (λ q.
       cases (isTaken shut i)
       (λ o.
-      rw (by-taken i shut free w o, sought-miss isWord i n l w, sought-hit (isTaken shut) i n l o, next)
+      rw (by-taken i shut free q o, sought-miss isWord i n l q, sought-hit (isTaken shut) i n l o, next)
       (resumed r (i + 1) noLane (a + (i + 1)) (omega arith) ∙ rw (← next) (free-known shut free _ i (i + 1) l (omega arith))))
       (λ o.
-      rw (by-other i shut free w o, sought-miss isWord i n l w, sought-miss (isTaken shut) i n l o, next)
+      rw (by-other i shut free q o, sought-miss isWord i n l q, sought-miss (isTaken shut) i n l o, next)
       (resumed r (i + 1) shut free (omega arith))))
 
-  pub in-the-end : (shut : List ℕ) (free : ℕ) → takeAll (unmapped a shut free) xs ≡ settled shut free (lowest isWord n) (lowest (isTaken shut) n)
-  in-the-end shut free = let same : a ≡ a + 0 = omega arith in ap (λ (f : ℕ). takeAll (unmapped f shut free) xs) same ∙ resumed n 0 shut free (omega arith)
+  pub in-the-end : (shut : List ℕ) (free : ℕ) → takeAll (soFar w shut a free) xs ≡ settled shut free (lowest isWord n) (lowest (isTaken shut) n)
+  in-the-end shut free = let same : a ≡ a + 0 = omega arith in ap (λ (f : ℕ). takeAll (soFar w shut f free) xs) same ∙ resumed n 0 shut free (omega arith)
 
   -- where the page's word has not come, all words were taken in
-  pub not-come : (shut : List ℕ) (free : ℕ) → takeAll (unmapped a shut free) xs .mapped ≡ 0 → takeAll (unmapped a shut free) xs ≡ unmapped (a + n) (takeAll (unmapped a shut free) xs .shut) (takeAll (unmapped a shut free) xs .free)
+  pub not-come : (shut : List ℕ) (free : ℕ) → takeAll (soFar w shut a free) xs .mapped ≡ 0 → takeAll (soFar w shut a free) xs ≡ soFar w (takeAll (soFar w shut a free) xs .shut) (a + n) (takeAll (soFar w shut a free) xs .free)
   not-come shut free e =
       let m : ℕ = lowest isWord n in
       let g : ℕ = lowest (isTaken shut) n in
@@ -175,7 +168,7 @@ module _ (w a : ℕ) (xs : List ℕ) where
     pub lanes : length (k .shut) ≡ 16
     pub flags : any (ltb 1) (k .shut) ≡ false
 
-  pub sound : (shut : List ℕ) → length shut ≡ 16 → any (ltb 1) shut ≡ false → Sound (takeAll (unmapped a shut 0) xs)
+  pub sound : (shut : List ℕ) → length shut ≡ 16 → any (ltb 1) shut ≡ false → Sound (takeAll (soFar w shut a 0) xs)
   unfolding noLane
   sound shut sixteen flags =
       let m : ℕ = lowest isWord n in

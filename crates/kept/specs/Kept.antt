@@ -18,23 +18,26 @@ isOpen shut f = eqb (getD shut (f % 16) 0) 0
 unfoldable pub noLane : List ℕ
 noLane = replicate 16 1
 
--- before the first word: the page's word, and the lanes of the active set
+-- What is kept for word w after so many words: while the page's word has not come, the lanes and the free frame to take; once it has come, with the
+-- last of them, nothing else is wanted
+abbrev pub soFar : ℕ → List ℕ → ℕ → ℕ → Kept
+soFar w shut taken free = record { word = w; shut = shut; taken = taken; mapped = 0; free = free }
+
+abbrev pub found : ℕ → ℕ → Kept
+found w taken = record { word = w; shut = noLane; taken = taken; mapped = taken; free = 0 }
+
+-- before the first word
 unfoldable pub start : ℕ → List ℕ → Kept
-start w shut = record { word = w; shut = shut; taken = 0; mapped = 0; free = 0 }
+start w shut = soFar w shut 0 0
 
--- one word more
-abbrev pub onwards : Kept → List ℕ → ℕ → ℕ → Kept
-onwards k shut mapped free = record { word = k .word; shut = shut; taken = k .taken + 1; mapped = mapped; free = free }
-
--- Taking in word x, that of frame `taken`. Where the page's frame is known, nothing changes any more. If x is the page's word, its frame is known and
--- no other is wanted; if the frame is free in an open lane, it is the one to take unless the page's word comes, and all lanes are shut; else no
--- frame more is known.
+-- Taking in word x, that of frame `taken`: nothing changes once the page's frame is known; the page's word has come; the frame is free in an open
+-- lane, so that it is the one to take unless the page's word comes, and all lanes are shut; or the word does not matter
 unfoldable pub takeIn : Kept → ℕ → Kept
 takeIn k x =
     if ltb 0 (k .mapped) then k
-    else if eqb x (k .word) then onwards k noLane (k .taken + 1) 0
-    else if eqb x 0 && isOpen (k .shut) (k .taken) then onwards k noLane 0 (k .taken + 1)
-    else onwards k (k .shut) 0 (k .free)
+    else if eqb x (k .word) then found (k .word) (k .taken + 1)
+    else if eqb x 0 && isOpen (k .shut) (k .taken) then soFar (k .word) noLane (k .taken + 1) (k .taken + 1)
+    else soFar (k .word) (k .shut) (k .taken + 1) (k .free)
 
 unfoldable pub takeAll : Kept → List ℕ → Kept
 takeAll k [] = k

@@ -13,9 +13,9 @@ use Rattle.lists.proofs.Split.{neither}
 use Rattle.lists.proofs.Found.{any-none, none-lowest}
 use Rattle.lists.proofs.Same.{same-lowest}
 use Rattle.kept.specs.declared.Kept.{Kept}
-use Rattle.kept.specs.Kept.{noLane, takeAll}
+use Rattle.kept.specs.Kept.{noLane, takeAll, soFar, found}
 use Rattle.pass.specs.Steps.{inLane, matters, AtBlock}
-use Rattle.kept.proofs.Closed.{found, unmapped, settled, settled-word, settled-free, settled-none, isTaken, in-the-end}
+use Rattle.kept.proofs.Closed.{settled, settled-word, settled-free, settled-none, isTaken, in-the-end}
 
 -- the front of a block is searched like the block
 pub same-front : (p : ℕ → ℕ → Bool) (block : List ℕ) (filled : ℕ) → filled ≤ length block → lowest (λ (i : ℕ). p (getD block i 0) i) filled ≡ lowest (λ (i : ℕ). p (getD (take filled block) i 0) i) (length (take filled block))
@@ -43,7 +43,7 @@ module _ (k : Kept) (xs : List ℕ) (at : AtBlock k (length xs)) where
   abbrev pub openLane : ℕ
   openLane = lowest (inLane xs 0 shut) n
 
-  kept-is : k ≡ unmapped (k .word) (k .taken) xs (k .taken) shut (k .free)
+  kept-is : k ≡ soFar (k .word) shut (k .taken) (k .free)
   kept-is = λ j. record { word = k .word; shut = shut; taken = k .taken; mapped = at .unmapped j; free = k .free }
 
   lane-of : (i : ℕ) → i < n → (k .taken + i) % 16 ≡ i
@@ -60,17 +60,17 @@ module _ (k : Kept) (xs : List ℕ) (at : AtBlock k (length xs)) where
       ∙ in-the-end (k .word) (k .taken) xs shut (k .free)
       ∙ ap (settled (k .word) (k .taken) xs shut (k .free) wordLane) lanes-are
 
-  pub by-word-lane : wordLane < n → takeAll k xs ≡ found (k .word) (k .taken) xs (k .taken + wordLane + 1)
+  pub by-word-lane : wordLane < n → takeAll k xs ≡ found (k .word) (k .taken + wordLane + 1)
   by-word-lane l = took ∙ settled-word (k .word) (k .taken) xs shut (k .free) wordLane openLane l
 
-  pub by-open-lane : n ≤ wordLane → openLane < n → takeAll k xs ≡ unmapped (k .word) (k .taken) xs (k .taken + n) noLane (k .taken + openLane + 1)
+  pub by-open-lane : n ≤ wordLane → openLane < n → takeAll k xs ≡ soFar (k .word) noLane (k .taken + n) (k .taken + openLane + 1)
   by-open-lane h l = took ∙ settled-free (k .word) (k .taken) xs shut (k .free) wordLane openLane h l
 
-  pub by-neither : n ≤ wordLane → n ≤ openLane → takeAll k xs ≡ unmapped (k .word) (k .taken) xs (k .taken + n) shut (k .free)
+  pub by-neither : n ≤ wordLane → n ≤ openLane → takeAll k xs ≡ soFar (k .word) shut (k .taken + n) (k .free)
   by-neither h l = took ∙ settled-none (k .word) (k .taken) xs shut (k .free) wordLane openLane h l
 
   -- no word of it matters
-  pub quiet : any (matters xs (k .word) shut) (upto n) ≡ false → takeAll k xs ≡ unmapped (k .word) (k .taken) xs (k .taken + n) shut (k .free)
+  pub quiet : any (matters xs (k .word) shut) (upto n) ≡ false → takeAll k xs ≡ soFar (k .word) shut (k .taken + n) (k .free)
   quiet e =
       let none : (i : ℕ) → i < n → (eqb (getD xs i 0) (k .word) ≡ false) × (inLane xs 0 shut i ≡ false) = λ i l. neither (eqb (getD xs i 0) (k .word)) (inLane xs 0 shut i) (any-none (matters xs (k .word) shut) n i e l) in
       by-neither (omega (arith, none-lowest (λ (i : ℕ). eqb (getD xs i 0) (k .word)) n (λ i l. none i l .0)))
@@ -100,10 +100,10 @@ module _ (k : Kept) (block : List ℕ) (filled : ℕ) (at : AtBlock k filled) (s
 
       pub front-open : o < filled → record { word = k .word; shut = noLane; taken = k .taken + filled; mapped = 0; free = k .taken + o + 1 } ≡ takeAll k xs
       front-open l =
-          ap₂ (λ (i m : ℕ). unmapped (k .word) (k .taken) xs (k .taken + m) noLane (k .taken + i + 1)) open-is (sym long)
+          ap₂ (λ (i m : ℕ). soFar (k .word) noLane (k .taken + m) (k .taken + i + 1)) open-is (sym long)
           ∙ sym (by-open-lane k xs at-front (omega (arith, word-is, long)) (omega (arith, open-is, long)))
 
       pub front-neither : filled ≤ o → record { word = k .word; shut = k .shut; taken = k .taken + filled; mapped = 0; free = k .free } ≡ takeAll k xs
       front-neither l =
-          ap (λ (m : ℕ). unmapped (k .word) (k .taken) xs (k .taken + m) (k .shut) (k .free)) (sym long)
+          ap (λ (m : ℕ). soFar (k .word) (k .shut) (k .taken + m) (k .free)) (sym long)
           ∙ sym (by-neither k xs at-front (omega (arith, word-is, long)) (omega (arith, open-is, long)))

@@ -10,8 +10,8 @@ use lib.ListN.{length, take, drop, take-append-drop, length-drop}
 use lib.Seq.{take-all, take-append-seam, length-take-le, drop-drop}
 use Rattle.lists.specs.Range.{upto, any}
 use Rattle.kept.specs.declared.Kept.{Kept}
-use Rattle.kept.specs.Kept.{start, takeAll}
-use Rattle.pass.specs.Steps.{matters, soFar, AtBlock}
+use Rattle.kept.specs.Kept.{start, takeAll, soFar}
+use Rattle.pass.specs.Steps.{matters, AtBlock}
 use Rattle.kept.proofs.Closed.{known-stays, take-append, not-come}
 use Rattle.pass.proofs.Blocks.{quiet}
 

@@ -15,10 +15,6 @@ inLane xs w shut i = eqb (getD xs i 0) w && eqb (getD shut i 0) 0
 abbrev pub matters : List ℕ → ℕ → List ℕ → ℕ → Bool
 matters xs w shut i = eqb (getD xs i 0) w || inLane xs 0 shut i
 
--- what is kept while the page's word has not come
-abbrev pub soFar : ℕ → List ℕ → ℕ → ℕ → Kept
-soFar w shut taken free = record { word = w; shut = shut; taken = taken; mapped = 0; free = free }
-
 -- a block of so many words is about to be taken in
 pub record AtBlock (k : Kept) (filled : ℕ) : Type 0 where
   pub aligned : k .taken % 16 ≡ 0

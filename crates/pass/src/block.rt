@@ -6,8 +6,8 @@ ghost use mathlib.Core.List.{_++_};
 ghost use Prim.Native.Nat.{_≤_};
 ghost use lib.ListN.{length, take, drop};
 ghost use Rattle.lists.specs.Range.{upto, any, lowest};
-ghost use Rattle.kept.specs.Kept.{takeAll};
-ghost use Rattle.pass.specs.Steps.{inLane, matters, soFar, AtBlock};
+ghost use Rattle.kept.specs.Kept.{takeAll, soFar};
+ghost use Rattle.pass.specs.Steps.{inLane, matters, AtBlock};
 use kept::Kept;
 
 // Reads the words, and says whether one of them is the page's, or is that of a free frame in an open lane.

@@ -8,8 +8,8 @@ use mathlib.Core.Path.{_≡_, refl, sym, ap, ap₂, _∙_}
 use borrow.Author.Needs.{needs}
 use lib.ListN.{length, take, drop, length-take, length-drop}
 use Rattle.kept.specs.declared.Kept.{Kept}
-use Rattle.kept.specs.Kept.{takeAll}
-use Rattle.pass.specs.Steps.{soFar, AtBlock}
+use Rattle.kept.specs.Kept.{takeAll, soFar}
+use Rattle.pass.specs.Steps.{AtBlock}
 use Rattle.pass.proofs.Going.{Going, block, long, at-start, at-rest, on-to, past-it, ends, goes-on, read-back}
 use Rattle.pass.proofs.go_over.Statement.{statement}
 use Rattle.pass.proofs.go_over.Tie as tie
