@@ -1,9 +1,9 @@
 /*
  * A loader in small: it sees that the archive is its header's, asks for the colours of its cache, boots a
- * board with two guests, faults pages in, recolours a guest, and admits the plan of document 01, knowing
- * beforehand how many rounds that can take. Each reply is held against what document 01 says, the
- * rounds against document 02, No. 9, and the exit status is 1 where one differs, 2 with an archive of another
- * interface.
+ * board with two guests, faults pages in, recolours a guest, sees that a guest's frames lie evenly over its
+ * colours, and admits the plan of document 01, knowing beforehand how many rounds that can take. Each reply is
+ * held against what document 01 says, the even use of colours and the rounds against document 02, Nos. 7 and 9,
+ * and the exit status is 1 where one differs, 2 with an archive of another interface.
  */
 #include <stdio.h>
 
@@ -130,15 +130,31 @@ static void show_recolour(struct juzvanec_board *board, uint16_t *table)
     expect("board's set", board->active[0], 0x1);
 }
 
-static void show_release(const struct juzvanec_board *board, uint16_t *table)
+static void show_release(const struct juzvanec_board *board, uint16_t *table, uint32_t domain, uint32_t page,
+                         uint32_t expected_frame)
 {
     uint32_t frame, row;
 
-    expect("refusal", juzvanec_release(board, table, FRAMES, 0, 9, &frame, &row), JUZVANEC_ANSWERED);
-    printf("domain 0 releases page 9: frame %lu\n", (unsigned long)frame);
-    expect("frame", frame, 0);
-    expect("refusal", juzvanec_release(board, table, FRAMES, 0, 9, &frame, &row),
+    expect("refusal", juzvanec_release(board, table, FRAMES, domain, page, &frame, &row), JUZVANEC_ANSWERED);
+    printf("domain %lu releases page %lu: frame %lu\n", (unsigned long)domain, (unsigned long)page,
+           (unsigned long)frame);
+    expect("frame", frame, expected_frame);
+    expect("refusal", juzvanec_release(board, table, FRAMES, domain, page, &frame, &row),
            JUZVANEC_REFUSED_UNMAPPED);
+}
+
+/*
+ * Domain 1 holds frame 2 and takes frame 3, and on a tie frame 6, which has the lower colour again. It gives
+ * back frames 2 and 3. The next page gets frame 3 and not the lowest free frame, 2: of that colour it holds
+ * frame 6, and of colour 3 none.
+ */
+static void show_even_use(const struct juzvanec_board *board, uint16_t *table)
+{
+    show_fault(board, table, 1, 1, JUZVANEC_ANSWERED, 3);
+    show_fault(board, table, 1, 2, JUZVANEC_ANSWERED, 6);
+    show_release(board, table, 1, 0, 2);
+    show_release(board, table, 1, 1, 3);
+    show_fault(board, table, 1, 3, JUZVANEC_ANSWERED, 3);
 }
 
 static void show_frames(void)
@@ -159,8 +175,9 @@ static void show_frames(void)
     show_look(&board, table, 0, 1, 1, 4);
     show_look(&board, table, 1, 1, 0, 0);
     show_fault(&board, table, 0, 2, JUZVANEC_REFUSED_NO_FRAME, 0);
-    show_release(&board, table);
+    show_release(&board, table, 0, 9, 0);
     show_fault(&board, table, 0, 2, JUZVANEC_ANSWERED, 0);
+    show_even_use(&board, table);
 }
 
 /* The plan of the program `admit` in document 01: one guest, a VCPU and two tasks. */

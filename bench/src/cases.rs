@@ -275,20 +275,21 @@ impl Case for Boot {
     }
 }
 
-/// Domain 0 recolours from the lower half of the colours to the upper one; board and table are copied
-/// first.
+/// Domain 0 recolours to a set, which takes that many moves; board and table are copied first.
 pub struct Recolour {
     start: Frames,
     set: u32,
+    expected: u32,
     now: Frames,
     moves: Vec<u16>,
 }
 
 impl Recolour {
-    pub fn new(board: Board, table: Vec<u16>, set: u32) -> Self {
+    pub fn new(board: Board, table: Vec<u16>, set: u32, expected: u32) -> Self {
         Recolour {
             start: Frames::new(board, table.clone(), 0),
             set,
+            expected,
             moves: vec![0; 3 * table.len()],
             now: Frames::new(board, table, 0),
         }
@@ -333,7 +334,8 @@ impl Case for Recolour {
         let two = reply(self.reply_base(), |count| [count as u32, 0]);
         let Frames { board, .. } = &self.now;
         let lists = table == self.now.table && moves == self.moves;
-        one == two && lists && lent == ours::lent(board) && one.2[0] > 0
+        let counted = one.0 == 0 && one.2[0] == self.expected;
+        one == two && lists && lent == ours::lent(board) && counted
     }
 
     fn symbols(&self) -> [&'static str; 2] {

@@ -55,17 +55,56 @@ fn nearly_full(frames: u32) -> Vec<u16> {
     table
 }
 
-/// One domain with all colours holds most frames of the lower half.
-fn recolouring(frames: u32) -> Recolour {
+/// Domain 1 holds some of the first and some of the last frames of its four colours, fewer the later the first
+/// free one comes.
+fn crowded(frames: u32) -> Vec<u16> {
+    let n = frames / 16;
+    let shares = [(0, n - 1), (n / 16, n / 2), (n / 8, n / 4), (n / 4, 0)];
+    let mut table = held(frames, 0);
+    for (colour, (first, last)) in (4..8).zip(shares) {
+        for place in (0..first).chain(n - last..n) {
+            let frame = 16 * place + colour;
+            table[frame as usize] = word(1, frame);
+        }
+    }
+    table
+}
+
+/// How many frames of the lower half of the colours are held in a recolouring.
+fn moving(frames: u32) -> u32 {
+    frames * 125 / 256
+}
+
+/// One domain with all colours holds most frames of the lower half, and so many of three colours of the upper,
+/// the last ones.
+fn lower_half(frames: u32, upper: [u32; 3]) -> (Board, Vec<u16>) {
     let mut board = board(frames, &[0xFFFF]);
     board.active[0] = 0x00FF;
-    let moving = frames * 125 / 256;
     let mut table = vec![0; frames as usize];
     let lower = (0..frames).filter(|frame| frame % 16 < 8);
-    for frame in lower.take(moving as usize) {
+    for frame in lower.take(moving(frames) as usize) {
         table[frame as usize] = word(0, frame);
     }
-    Recolour::new(board, table, 0xFF00)
+    for (colour, count) in (8..).zip(upper) {
+        for frame in (colour..frames).step_by(16).rev().take(count as usize) {
+            table[frame as usize] = word(0, frame);
+        }
+    }
+    (board, table)
+}
+
+/// A recolouring to the upper half.
+fn recolouring(frames: u32) -> Recolour {
+    let (board, table) = lower_half(frames, [0; 3]);
+    Recolour::new(board, table, 0xFF00, moving(frames))
+}
+
+/// The same where no frame of the upper half is left over, and some of its colours have frames already.
+fn uneven_recolouring(frames: u32) -> Recolour {
+    let spare = frames / 2 - moving(frames);
+    let [half, third] = [spare / 2, spare / 3];
+    let (board, table) = lower_half(frames, [half, third, spare - half - third]);
+    Recolour::new(board, table, 0xFF00, moving(frames))
 }
 
 fn task(vcpu: u32, period: u32, deadline: u32, set: u32, cost: u32) -> Vec<u32> {
@@ -215,7 +254,7 @@ fn frames(table: Vec<u16>, page: u32) -> Frames {
 /// The frame calls on F frames.
 fn frame_cases(f: u32) -> Vec<Named> {
     let (first, last) = (4, f - 9);
-    let (faults, moves) = (f * 125 / 512, f * 125 / 256);
+    let (faults, moves) = (f * 125 / 512, moving(f));
     let boot = Boot {
         frames: frames(held(f, 0), 0),
         faults,
@@ -231,6 +270,7 @@ fn frame_cases(f: u32) -> Vec<Named> {
         named("fault, empty table", &size, fault(held(f, 0))),
         named("fault, half-full table", &size, fault(held(f, f / 2))),
         named("fault, nearly full table", &size, fault(nearly_full(f))),
+        named("fault, crowded table", &size, fault(crowded(f))),
         named(
             "fault, page in one of the first frames",
             &size,
@@ -242,6 +282,11 @@ fn frame_cases(f: u32) -> Vec<Named> {
             "recolour",
             &format!(" of {moves} frames{size}"),
             recolouring(f),
+        ),
+        named(
+            "uneven recolour",
+            &format!(" of {moves} frames{size}"),
+            uneven_recolouring(f),
         ),
     ]
 }

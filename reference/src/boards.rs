@@ -1,8 +1,8 @@
-//! Random boards, empty frame tables and numbers for calls, shared by the vectors and the histories.
-//! The terms are those of document 01, "Board and frame table".
+//! Random boards, frame tables and numbers for calls, shared by the vectors, the histories and the comparison
+//! at scale. The terms are those of document 01, "Board and frame table".
 
 use crate::cache::colours;
-use crate::frames::{Board, DOMAINS, FREE, RESERVED};
+use crate::frames::{word, Board, DOMAINS, FREE, PAGES, RESERVED};
 use crate::random::Random;
 
 /// A nonempty part of the set, unless it is empty.
@@ -136,4 +136,52 @@ pub fn any_set(random: &mut Random, grant: u32) -> u32 {
         4 | 5 => grant,
         _ => part,
     }
+}
+
+/// A word that is seldom free: of the given pages, so that some stand twice and in frames of any colour; of
+/// domains at or beyond the count; at the edges between two domains; and of nobody.
+pub fn any_word(random: &mut Random, domains: u32, pages: &[u32]) -> u16 {
+    let page = random.pick(pages);
+    let edge = PAGES * random.below(9) as u32;
+    let any = match random.below(14) {
+        0..=7 => word(random.below(domains.clamp(1, 8).into()) as u32, page),
+        8 => word(random.below(8) as u32, page),
+        9 => u64::from(edge) + random.below(2),
+        10 => random.pick(&[32_768, 32_769, 65_534]),
+        11 => random.below(65_536),
+        _ => RESERVED.into(),
+    };
+    any as u16
+}
+
+/// A table in which each colour has a share of free frames and of its domain's words, and else any words.
+pub fn crowded_table(random: &mut Random, board: &Board, pages: &[u32]) -> Vec<u16> {
+    // percent of free frames, and of the domain's own
+    let shares = [
+        (0, 0),
+        (0, 100),
+        (5, 90),
+        (20, 70),
+        (40, 50),
+        (50, 20),
+        (80, 15),
+        (95, 0),
+        (100, 0),
+    ];
+    let of_colour: Vec<((u64, u64), u32)> = (0..board.colours)
+        .map(|colour| {
+            let owner = (0..board.domains).find(|d| board.grants[*d as usize] >> colour & 1 == 1);
+            (random.pick(&shares), owner.unwrap_or(0))
+        })
+        .collect();
+    (0..board.frames)
+        .map(|frame| {
+            let ((free, own), domain) = of_colour[(frame % board.colours) as usize];
+            match random.below(100) {
+                share if share < free => FREE,
+                share if share < free + own => word(domain, random.pick(pages)) as u16,
+                _ => any_word(random, board.domains, pages),
+            }
+        })
+        .collect()
 }

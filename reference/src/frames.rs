@@ -1,9 +1,11 @@
 //! The board, the frame table and its five calls: document 01, "Board and frame table", with refusals 2
-//! to 14 of "Refusals in the order tested". Each call is defined for every board, table and number.
+//! to 14 of "Refusals in the order tested", and the choice of a free frame of document 02, No. 7. Each call
+//! is defined for every board, table and number.
 
+use std::collections::VecDeque;
 use std::fmt;
 
-use crate::cache::is_count;
+use crate::cache::{self, is_count};
 use crate::reply::Reply;
 
 pub const DOMAINS: usize = 8;
@@ -119,11 +121,49 @@ fn mapped(table: &[u16], domain: u32, page: u32) -> Option<usize> {
         .position(|held| u64::from(*held) == word(domain, page))
 }
 
-/// The free frames with a colour in the set, ascending.
-fn free_frames(board: &Board, table: &[u16], set: u32) -> Vec<usize> {
-    (0..table.len())
-        .filter(|frame| table[*frame] == FREE && has(set, *frame as u32 % board.colours))
-        .collect()
+/// What the choice of a free frame goes by.
+struct Colours {
+    /// How many frames of each colour the domain holds, for whatever pages: a page in two frames counts twice.
+    held: Vec<usize>,
+    /// The free frames of each colour, ascending.
+    free: Vec<VecDeque<usize>>,
+}
+
+impl Colours {
+    fn new(board: &Board, table: &[u16], domain: u32) -> Self {
+        let n = board.colours as usize;
+        let mut colours = Colours {
+            held: vec![0; n],
+            free: vec![VecDeque::new(); n],
+        };
+        for (frame, held) in table.iter().enumerate() {
+            if *held == FREE {
+                colours.free[frame % n].push_back(frame);
+            }
+            if page_held(domain, *held).is_some() {
+                colours.held[frame % n] += 1;
+            }
+        }
+        colours
+    }
+
+    /// Document 02, No. 7: "The free frame chosen shall have the active colour in which the domain holds the
+    /// fewest frames among colours with a free frame, the lowest colour on a tie, then the lowest frame." It is
+    /// the domain's from then on, and counts.
+    fn take(&mut self, set: u32) -> Option<usize> {
+        let colours = cache::colours(set).into_iter().map(|c| c as usize);
+        let colour = colours
+            .filter(|c| !self.free[*c].is_empty())
+            .min_by_key(|c| (self.held[*c], *c))?;
+        self.held[colour] += 1;
+        self.free[colour].pop_front()
+    }
+
+    /// How many free frames have a colour in the set.
+    fn free_in(&self, set: u32) -> usize {
+        let colours = cache::colours(set).into_iter();
+        colours.map(|c| self.free[c as usize].len()).sum()
+    }
 }
 
 pub fn look(board: &Board, table: &[u16], domain: u32, page: u32) -> Reply<Answer> {
@@ -143,11 +183,11 @@ pub fn fault(board: &Board, table: &mut [u16], domain: u32, page: u32) -> Reply<
     if let Some(frame) = mapped(table, domain, page) {
         return Reply::Answer(Answer::Old(frame));
     }
-    match free_frames(board, table, board.active[domain as usize]).first() {
+    match Colours::new(board, table, domain).take(board.active[domain as usize]) {
         None => Reply::refused(12),
         Some(frame) => {
-            table[*frame] = word(domain, page) as u16;
-            Reply::Answer(Answer::New(*frame))
+            table[frame] = word(domain, page) as u16;
+            Reply::Answer(Answer::New(frame))
         }
     }
 }
@@ -172,6 +212,8 @@ pub fn colours(board: &Board, table: &[u16], domain: u32) -> Reply<Answer> {
     }
 }
 
+/// Document 02, No. 7: "In recolouring, the targets are chosen so one by one in the new set, counting frames
+/// already moved; frames vacated are still not used." The frames to move go in ascending order.
 pub fn recolour(
     board: &mut Board,
     table: &mut [u16],
@@ -185,19 +227,20 @@ pub fn recolour(
     if unfit(set, board.grants[domain as usize]) {
         return Reply::refused(9);
     }
-    // both lists are of the table before any move, so no frame vacated here becomes a target
+    // both are of the table before any move, so no frame vacated here becomes a target
     let leaving: Vec<(usize, u16)> = (0..table.len())
         .filter(|frame| !has(set, *frame as u32 % board.colours))
         .filter_map(|frame| Some((frame, page_held(domain, table[frame])?)))
         .collect();
-    let free = free_frames(board, table, set);
-    if leaving.len() > free.len() {
+    let mut colours = Colours::new(board, table, domain);
+    if leaving.len() > colours.free_in(set) {
         return Reply::refused(12);
     }
     if moves.len() < 3 * leaving.len() {
         return Reply::refused(13);
     }
-    for (place, ((old, page), new)) in leaving.iter().zip(free).enumerate() {
+    for (place, (old, page)) in leaving.iter().enumerate() {
+        let new = colours.take(set).expect("12 left enough free frames");
         table[new] = table[*old];
         table[*old] = FREE;
         moves[3 * place..][..3].copy_from_slice(&[*page, *old as u16, new as u16]);
@@ -322,6 +365,128 @@ mod tests {
         let short = recolour(&mut board, &mut table, 0, 0x1, &mut [0; 2]);
         assert_eq!(short, Reply::refused(13));
         assert_eq!((board, table), before);
+    }
+
+    /// A board of one domain with all colours, and this active set.
+    fn single(colours: u32, frames: u32, active: u32) -> Board {
+        let mut board = Board {
+            colours,
+            frames,
+            domains: 1,
+            grants: [0; DOMAINS],
+            active: [0; DOMAINS],
+        };
+        board.grants[0] = (1 << colours) - 1;
+        board.active[0] = active;
+        board
+    }
+
+    fn new_frame(board: &Board, table: &mut [u16], page: u32) -> Option<usize> {
+        match fault(board, table, 0, page) {
+            Reply::Answer(Answer::New(frame)) => Some(frame),
+            reply => {
+                assert_eq!(reply, Reply::refused(12));
+                None
+            }
+        }
+    }
+
+    /// Frames 0 to 11 have the colours 0, 1, 2, 3 three times over. Six faults take colours 0, 1, 2 and again
+    /// 0, 1, 2. Then frame 4 is all that is left in colour 0, nothing in colour 1, frames 2 and 6 in colour 2:
+    /// the first fault goes to colour 1, whose lowest free frame is 1; the second finds 1, 1, 2 and takes the
+    /// lower colour's frame 0; the third 2, 1, 2, and colour 1 has frame 5. Lowest first, they had 0, 1, 5.
+    #[test]
+    fn crowded_faults() {
+        let board = single(4, 12, 0x7);
+        let mut table = vec![FREE; 12];
+        for (page, frame) in (0..).zip([0, 1, 2, 4, 5, 6]) {
+            assert_eq!(new_frame(&board, &mut table, page), Some(frame));
+        }
+        for (page, frame) in [(0, 0), (1, 1), (4, 5)] {
+            assert_eq!(
+                release(&board, &mut table, 0, page),
+                Reply::Answer(Answer::Freed(frame))
+            );
+        }
+        for (page, frame) in (6..).zip([1, 0, 5]) {
+            assert_eq!(new_frame(&board, &mut table, page), Some(frame));
+        }
+        assert_eq!(table, [8, 7, 3, 0, 4, 9, 6, 0, 0, 0, 0, 0]);
+    }
+
+    /// The new set has colours 1 and 2. In colour 1 the domain holds frames 1 and 5, and 9 is free; in colour 2
+    /// it holds frame 10, and 2 and 6 are free. Frames 0, 3 and 8 have to move. Frame 0: 2 in colour 1 and 1 in
+    /// colour 2, so it goes to colour 2, frame 2. Frame 3: 2 and 2, so it goes to the lower colour, which has
+    /// frame 9 alone. Frame 8: 3 and 2, so it goes to frame 6. Lowest first, the targets were 2, 6, 9.
+    #[test]
+    fn crowded_recolouring() {
+        let mut board = single(4, 12, 0xF);
+        let mut table = vec![8, 1, 0, 6, 0, 2, 0, RESERVED, 7, 0, 3, 0];
+        let mut moves = [0; 9];
+        assert_eq!(
+            recolour(&mut board, &mut table, 0, 0x6, &mut moves),
+            Reply::Answer(Answer::Moved(3))
+        );
+        assert_eq!(moves, [7, 0, 2, 5, 3, 9, 6, 8, 6]);
+        assert_eq!(table, [0, 1, 8, 0, 0, 2, 7, RESERVED, 0, 6, 3, 0]);
+        assert_eq!(board.active[0], 0x6);
+    }
+
+    /// One frame is held in either colour, and the lowest free frame is the higher colour's.
+    #[test]
+    fn the_lowest_colour_goes_before_the_lowest_frame() {
+        let board = single(2, 4, 0x3);
+        let mut table = [1, 0, 0, 2];
+        assert_eq!(new_frame(&board, &mut table, 9), Some(2));
+    }
+
+    /// Page 5 has frames 0 and 2, so colour 0 has two of the domain's frames and colour 1 one.
+    #[test]
+    fn duplicates_count_each() {
+        let board = single(2, 6, 0x3);
+        let mut table = [6, 1, 6, 0, 0, 0];
+        assert_eq!(new_frame(&board, &mut table, 9), Some(3));
+        // two and two
+        assert_eq!(new_frame(&board, &mut table, 10), Some(4));
+    }
+
+    /// Colour 0 has words of another domain, of nobody and for the hypervisor, and colour 1 the domain's
+    /// words for its first and its last page.
+    #[test]
+    fn only_own_frames_count() {
+        let board = single(2, 8, 0x3);
+        let mut table = [4097, 1, RESERVED, 4096, 0, 0, 32_769, 0];
+        assert_eq!(new_frame(&board, &mut table, 9), Some(4));
+        // colour 0 has no free frame left
+        assert_eq!(new_frame(&board, &mut table, 10), Some(5));
+    }
+
+    /// Nothing is held in colour 0, whose frames are reserved, nor in colour 3, which is not active. Colour 1
+    /// has the fewest frames of the others and no free one.
+    #[test]
+    fn a_colour_without_a_free_frame_is_no_candidate() {
+        let board = single(4, 12, 0x7);
+        let full = RESERVED;
+        let mut table = [full, 1, 2, 0, full, full, 3, 0, full, full, 0, 0];
+        assert_eq!(new_frame(&board, &mut table, 9), Some(10));
+        assert_eq!(new_frame(&board, &mut table, 10), None);
+    }
+
+    /// The colour with the fewest frames runs out on the way: frames 2, 6, 10 and 14 go to frame 1, which is
+    /// the only free one of colour 1, and then to colour 0, of which the domain holds one frame from the start.
+    #[test]
+    fn a_colour_runs_out_in_recolouring() {
+        let mut board = single(4, 16, 0xC);
+        let full = RESERVED;
+        let mut table = vec![0, 0, 2, 0, 1, full, 3, 0, 0, full, 4, 0, 0, full, 5, 0];
+        let mut moves = [0; 12];
+        assert_eq!(
+            recolour(&mut board, &mut table, 0, 0x3, &mut moves),
+            Reply::Answer(Answer::Moved(4))
+        );
+        assert_eq!(moves, [1, 2, 1, 2, 6, 0, 3, 10, 8, 4, 14, 12]);
+        let after = [3, 2, 0, 0, 1, full, 0, 0, 4, full, 0, 0, 5, full, 0, 0];
+        assert_eq!(table, after);
     }
 
     /// Any content: duplicates and frames outside the grant move, a reserved frame is no target, and a

@@ -1,9 +1,12 @@
 //! The domain rule, run on random histories: document 01, "The words of demand 3". Two histories that
 //! leave a domain the same colours and map, its own calls replayed alone, must give it the same answers
-//! ever after, whatever the others do; two that do not are told apart by one call.
+//! ever after, whatever the others do; two that do not are told apart by one call. And what a planner relies
+//! on of document 02, No. 7: as long as a domain neither releases nor recolours, its frames lie evenly over
+//! its active colours, as far as these have free frames.
 
 use crate::boards::{accepted, any_domain, any_page, any_set, empty_table, part_of};
-use crate::frames::{Answer, Call, State, FREE, PAGES, RESERVED};
+use crate::cache::colours;
+use crate::frames::{word, Answer, Call, State, FREE, PAGES, RESERVED};
 use crate::random::Random;
 use crate::reply::Reply;
 
@@ -18,8 +21,13 @@ struct Answered {
 type Step = fn(&mut State, &Call) -> Answered;
 
 fn step(state: &mut State, call: &Call) -> Answered {
+    answered(call, |list| state.call(call, list))
+}
+
+/// What a call is answered that runs so, with a move list.
+fn answered(call: &Call, run: impl FnOnce(&mut [u16]) -> Reply<Answer>) -> Answered {
     let mut list = vec![0; call.room()];
-    let reply = state.call(call, &mut list);
+    let reply = run(&mut list);
     let count = match reply {
         Reply::Answer(Answer::Moved(count)) => count,
         _ => 0,
@@ -96,6 +104,95 @@ fn check_step(seed: u64, pairs: u32, step: Step) -> Tally {
     tally
 }
 
+/// How evenly the frames lie of domains that have neither released nor recoloured: a look after each call at
+/// each such domain.
+#[derive(Clone, Copy, Debug, Default)]
+pub struct Evenness {
+    pub looks: u32,
+    /// Those with one frame more in an active colour than in another that has a free frame.
+    pub by_one: u32,
+    /// Those with two frames or more beyond another that has no free frame.
+    pub by_more: u32,
+    /// Those with two frames or more beyond another that has one.
+    pub violations: u32,
+}
+
+impl Evenness {
+    /// No violation, and enough of each kind that this says something.
+    pub fn good(&self) -> bool {
+        let enough = self.by_one > self.looks / 10 && self.by_more > self.looks / 100;
+        enough && self.violations == 0
+    }
+
+    pub fn report(&self) {
+        println!(
+            "{} looks at a domain that has only taken frames, {} uneven by one, {} by more than one for want of \
+             free frames, {} violations",
+            self.looks, self.by_one, self.by_more, self.violations
+        );
+    }
+
+    fn look(&mut self, state: &State, domain: u32) {
+        let n = state.board.colours as usize;
+        let first = word(domain, 0);
+        let own = |held: u16| (first..first + u64::from(PAGES)).contains(&held.into());
+        let count = |colour: u32, counts: &dyn Fn(u16) -> bool| {
+            let words = state.table.iter().skip(colour as usize).step_by(n);
+            words.filter(|held| counts(**held)).count()
+        };
+        let active: Vec<(usize, bool)> = colours(state.board.active[domain as usize])
+            .into_iter()
+            .map(|colour| (count(colour, &own), count(colour, &|held| held == FREE) > 0))
+            .collect();
+        // the most held of any active colour, beyond what is held of one with a free frame, or of one without
+        let most = active.iter().map(|(held, _)| *held).max().unwrap_or(0);
+        let beyond = |free: bool| {
+            let colours = active.iter().filter(|(_, has_free)| *has_free == free);
+            colours.map(|(held, _)| most - held).max().unwrap_or(0)
+        };
+        self.looks += 1;
+        self.by_one += u32::from(beyond(true) == 1);
+        self.by_more += u32::from(beyond(false) > 1);
+        if beyond(true) > 1 {
+            if self.violations == 0 {
+                println!("uneven: domain {domain}, {state:?}");
+            }
+            self.violations += 1;
+        }
+    }
+}
+
+/// Looks at the domains during random histories.
+pub fn check_even(seed: u64, histories: u32) -> Evenness {
+    check_even_step(seed, histories, step)
+}
+
+fn check_even_step(
+    seed: u64,
+    histories: u32,
+    step: impl Fn(&mut State, &Call) -> Answered,
+) -> Evenness {
+    let mut random = Random::new(seed);
+    let mut evenness = Evenness::default();
+    for _ in 0..histories {
+        let trial = Trial::new(&mut random, self::step);
+        let mut state = trial.start.clone();
+        let mut only_took = vec![true; state.board.domains as usize];
+        for call in trial.filling(&mut random) {
+            let answered = step(&mut state, &call);
+            if let Reply::Answer(Answer::Freed(_) | Answer::Moved(_)) = answered.reply {
+                only_took[call.domain() as usize] = false;
+            }
+            for domain in 0..state.board.domains {
+                if only_took[domain as usize] {
+                    evenness.look(&state, domain);
+                }
+            }
+        }
+    }
+    evenness
+}
+
 fn own(history: &[Call], domain: u32) -> Vec<Call> {
     let named = history.iter().filter(|call| call.domain() == domain);
     named.copied().collect()
@@ -117,7 +214,9 @@ impl Trial {
         let board = accepted(random, n as u32, frames, domains);
         let table = empty_table(random, frames);
         let mut pages = vec![random.pick(&[0, PAGES - 1])];
-        for _ in 0..1 + random.below(4) {
+        // with many pages a domain holds several frames of a colour, and the choice shows
+        let most = random.pick(&[4, 14]);
+        for _ in 0..1 + random.below(most) {
             pages.push(random.below(PAGES.into()) as u32);
         }
         Trial {
@@ -260,8 +359,34 @@ impl Trial {
     }
 
     fn history(&self, random: &mut Random) -> Vec<Call> {
-        let length = random.below(4 + 6 * u64::from(self.start.board.domains));
+        let each = 4 + self.pages.len() as u64;
+        let length = random.below(4 + each * u64::from(self.start.board.domains));
         (0..length).map(|_| self.any_call(random)).collect()
+    }
+
+    /// Faults of pages that are seldom mapped, and any calls of one domain, perhaps; the others' releases and
+    /// recolourings are refused as a rule.
+    fn filling(&self, random: &mut Random) -> Vec<Call> {
+        let domains = self.start.board.domains;
+        let other = random.below(2 * u64::from(domains)) as u32;
+        let length = random.below(3 * u64::from(self.start.board.frames) + 8);
+        let mut calls = Vec::new();
+        for _ in 0..length {
+            let domain = any_domain(random, domains);
+            let page = random.below(PAGES.into()) as u32;
+            let grant = self.start.board.grants.get(domain as usize).unwrap_or(&1);
+            let part = part_of(random, *grant);
+            let set = random.pick(&[0, part, part | 1 << 16]);
+            let room = 0;
+            calls.push(match random.below(12) {
+                _ if domain == other => self.call_of(random, domain),
+                0 => Call::Release { domain, page },
+                1 => Call::Recolour { domain, set, room },
+                2 => Call::Look { domain, page },
+                _ => Call::Fault { domain, page },
+            });
+        }
+        calls
     }
 
     /// The own calls in their order, with new calls of the others anywhere among them.
@@ -317,6 +442,7 @@ impl Trial {
 #[cfg(test)]
 mod tests {
     use super::*;
+    use crate::readings::{self, all_words, in_turn, lowest_first, most_free, most_held, Reading};
 
     #[test]
     fn the_rule_holds_of_the_model() {
@@ -379,10 +505,39 @@ mod tests {
     }
 
     #[test]
+    fn colours_are_evenly_used_in_the_model() {
+        let evenness = check_even(crate::SEED, 400);
+        assert!(evenness.good(), "{evenness:?}");
+    }
+
+    /// Lowest first, and counts of what the domain does not hold, leave its colours uneven.
+    #[test]
+    fn uneven_loaders_are_found() {
+        for reading in [lowest_first, most_held, most_free, all_words] as [Reading; 4] {
+            let step = |state: &mut State, call: &Call| {
+                answered(call, |list| readings::call(state, call, list, reading))
+            };
+            let evenness = check_even_step(crate::SEED, 400, step);
+            assert!(evenness.violations > 20, "{evenness:?}");
+        }
+        for wrong in [ignores_colours as Step, common_pointer] {
+            let evenness = check_even_step(crate::SEED, 400, wrong);
+            assert!(evenness.violations > 20, "{evenness:?}");
+        }
+    }
+
+    /// A loader that takes colours in which as many frames are held in turn, the turn being common to all
+    /// domains.
+    fn common_turn(state: &mut State, call: &Call) -> Answered {
+        answered(call, |list| readings::call(state, call, list, in_turn))
+    }
+
+    #[test]
     fn wrong_loaders_are_found() {
         for wrong in [
             ignores_colours as Step,
             common_pointer,
+            common_turn,
             refuses_beside_others,
             tells_free_frames,
         ] {

@@ -13,6 +13,7 @@ pub mod plans;
 pub mod random;
 pub mod random_inputs;
 pub mod random_plans;
+pub mod readings;
 pub mod reply;
 pub mod vectors;
 

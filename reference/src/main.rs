@@ -14,11 +14,12 @@ const USAGE: &str =
        reference admit | reference compare [PROGRAM [CASES [SEED]]]
   write      writes DIR/vectors_*/stdin and stdout; another seed gives other random cases
   check      says whether those files are what `write` would write today
-  histories  runs random histories of the frame calls and says whether the domain rule holds of them
+  histories  runs random histories of the frame calls and says whether the domain rule holds of them, and
+             whether domains that only take frames use their colours evenly
   admit      reads a plan from standard input and prints what the program `admit` prints
   compare    runs a compiled `admit` (target/bin/admit) on random inputs (4000) and says where it differs";
 
-/// Pairs of histories that `histories` compares.
+/// Pairs of histories that `histories` compares, and histories in which it looks at how evenly frames lie.
 const PAIRS: u32 = 10_000;
 
 /// What `compare` runs, on how many inputs, and how long it waits for each.
@@ -70,7 +71,9 @@ fn check(dir: &str) -> bool {
 fn histories(seed: u64) -> bool {
     let tally = history::check(seed, PAIRS);
     tally.report();
-    tally.good()
+    let evenness = history::check_even(seed, PAIRS);
+    evenness.report();
+    tally.good() && evenness.good()
 }
 
 fn answer() -> bool {

@@ -1,8 +1,10 @@
 //! Scripts of the five frame calls on sound and damaged boards and on all kinds of table content. After
 //! each call the reply, the table, the board, the moves and the rest of the move list are compared.
 
-use reference::boards::{accepted, any_domain, any_page, any_set, empty_table, part_of, spoil};
-use reference::frames::{word, Answer, Board, Call, State, FREE, PAGES, RESERVED};
+use reference::boards::{
+    accepted, any_domain, any_page, any_set, any_word, empty_table, part_of, spoil,
+};
+use reference::frames::{Answer, Board, Call, State, FREE, PAGES};
 use reference::random::Random;
 use reference::reply::Reply;
 
@@ -104,7 +106,7 @@ pub fn compare(state: &mut State, call: &Call, tally: &mut Tally) {
 }
 
 /// A number of frames, seldom a large one.
-fn any_frames(random: &mut Random, n: u64) -> u32 {
+pub fn any_frames(random: &mut Random, n: u64) -> u32 {
     let frames = match random.below(400) {
         0 => 1000 + random.below(3097),
         1 => random.pick(&[4095, 4096]),
@@ -151,21 +153,6 @@ fn spoil_6(random: &mut Random, board: &mut Board, domains: u32, row: u32) {
     board.grants[later as usize] |= part_of(random, board.grants[row as usize]);
 }
 
-/// A word that is seldom free: of the given pages, so that some stand twice and in frames of any colour; of
-/// domains at or beyond the count; at the edges between two domains; and of nobody.
-fn any_word(random: &mut Random, domains: u32, pages: &[u32]) -> u16 {
-    let page = random.pick(pages);
-    let any = match random.below(14) {
-        0..=7 => word(random.below(domains.clamp(1, 8).into()) as u32, page),
-        8 => word(random.below(8) as u32, page),
-        9 => u64::from(PAGES) * random.below(9) + random.below(2),
-        10 => random.pick(&[32_768, 32_769, 65_534]),
-        11 => random.below(65_536),
-        _ => RESERVED.into(),
-    };
-    any as u16
-}
-
 /// Empty tables, and tables of any words with few or many free frames.
 fn any_table(random: &mut Random, board: &Board, pages: &[u32]) -> Vec<u16> {
     if random.below(3) == 0 {
@@ -180,26 +167,40 @@ fn any_table(random: &mut Random, board: &Board, pages: &[u32]) -> Vec<u16> {
         .collect()
 }
 
+/// How many moves the recolouring makes with a list that is long enough.
+fn moves(state: &State, domain: u32, set: u32) -> Option<usize> {
+    let room = 3 * state.table.len();
+    let call = Call::Recolour { domain, set, room };
+    match state.clone().call(&call, &mut vec![0; room]) {
+        Reply::Answer(Answer::Moved(count)) => Some(count),
+        _ => None,
+    }
+}
+
+/// A recolouring with a move list that is just long enough.
+pub fn recolour_to(state: &State, domain: u32, set: u32) -> Call {
+    let room = 3 * moves(state, domain, set).unwrap_or(0);
+    Call::Recolour { domain, set, room }
+}
+
 /// A recolouring with a move list that is just long enough, too short or too long.
 fn any_recolour(random: &mut Random, state: &State, domain: u32) -> Call {
     let grant = *state.board.grants.get(domain as usize).unwrap_or(&0xFFFF);
     let set = any_set(random, grant);
     let room = 3 * state.table.len();
-    let mut trial = state.clone();
-    let call = Call::Recolour { domain, set, room };
-    let room = match trial.call(&call, &mut vec![0; room]) {
-        Reply::Answer(Answer::Moved(count)) => {
+    let room = match moves(state, domain, set) {
+        Some(count) => {
             let exact = 3 * count;
             let short = exact.saturating_sub(1 + random.below(4) as usize);
             let long = exact + random.below(12) as usize;
             random.pick(&[exact, exact, exact, short, short, long, room, 0])
         }
-        _ => random.pick(&[0, 3, 12, room]),
+        None => random.pick(&[0, 3, 12, room]),
     };
     Call::Recolour { domain, set, room }
 }
 
-fn any_call(random: &mut Random, state: &State, pages: &[u32]) -> Call {
+pub fn any_call(random: &mut Random, state: &State, pages: &[u32]) -> Call {
     let domain = any_domain(random, state.board.domains);
     let page = any_page(random, pages);
     match random.below(16) {

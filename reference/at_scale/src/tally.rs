@@ -46,8 +46,9 @@ pub struct Short {
 #[derive(Default)]
 pub struct Tally {
     pub cases: u64,
-    /// The faults at chosen lengths of the table among them.
+    /// The chosen ones among them, and of these the faults at chosen lengths of the table.
     pub chosen: u64,
+    pub lengths: u64,
     pub differences: u64,
     pub rounds: Rounds,
     pub short: Short,
@@ -113,8 +114,12 @@ impl Tally {
         println!(
             "{all} rounds for {found} times, {most} at most for one, {at_bound} at a bound above 2"
         );
-        println!("{} faults at chosen lengths of the table", self.chosen);
-        for count in [times, rounds, at_bound, self.chosen] {
+        let shapes = self.chosen - self.lengths;
+        println!(
+            "{} faults at chosen lengths of the table, {shapes} calls on tables of chosen shapes",
+            self.lengths
+        );
+        for count in [times, rounds, at_bound, self.lengths, shapes] {
             missing += u32::from(count == 0);
         }
         if missing > 0 {

@@ -6,10 +6,7 @@
 #include <stdlib.h>
 #include <string.h>
 
-#include "juzvanec.h"
-
-/* The right function of the name, of the type that the header gives it. */
-#define RIGHT(name) extern __typeof__(juzvanec_##name) right_##name
+#include "wrong.h"
 
 RIGHT(interface);
 RIGHT(cache_colours);
@@ -24,13 +21,18 @@ RIGHT(part);
 RIGHT(admit_plan);
 RIGHT(admit);
 
-static int wrong(const char *way)
+const char *way(void)
 {
     static const char *chosen;
 
     if (!chosen)
         chosen = getenv("JUZVANEC_WRONG");
-    return chosen && strcmp(chosen, way) == 0;
+    return chosen ? chosen : "";
+}
+
+int wrong(const char *this_way)
+{
+    return strcmp(way(), this_way) == 0;
 }
 
 uint32_t juzvanec_interface(void)
@@ -107,6 +109,8 @@ uint32_t juzvanec_fault(const struct juzvanec_board *board, uint16_t *table, siz
     size_t whole = table_words - table_words % 16;
     uint32_t number, above;
 
+    if (chooses())
+        return choosing_fault(board, table, table_words, domain, page, is_new, frame, row);
     if (board->frames == table_words && whole > 0 && wrong("fault-rest"))
         return fault_up_to(board, table, whole, domain, page, is_new, frame, row);
     number = right_fault(board, table, table_words, domain, page, is_new, frame, row);
@@ -157,9 +161,11 @@ uint32_t juzvanec_recolour(struct juzvanec_board *board, uint16_t *table, size_t
                            uint32_t domain, uint32_t set, uint16_t *moves, size_t move_words,
                            uint32_t *count, uint32_t *row)
 {
-    uint32_t number =
-        right_recolour(board, table, table_words, domain, set, moves, move_words, count, row);
+    uint32_t number;
 
+    if (chooses())
+        return choosing_recolour(board, table, table_words, domain, set, moves, move_words, count, row);
+    number = right_recolour(board, table, table_words, domain, set, moves, move_words, count, row);
     if (number)
         return number;
     if (wrong("recolour-board"))

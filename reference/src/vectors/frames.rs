@@ -2,11 +2,14 @@
 //! words, their count first. A script is the board (19 words), the table's length and words, the number of
 //! calls, and four words for each: operation, domain, page or set, length of the move list.
 
-use super::{board_words, hash, put, Set};
-use crate::boards::{accepted, any_domain, any_page, any_set, empty_table, part_of, spoil};
+use super::{board_words, even, hash, put, Set};
+use crate::boards::{
+    accepted, any_domain, any_page, any_set, any_word, empty_table, part_of, spoil,
+};
 use crate::cache::colours;
 use crate::frames::{word, Answer, Board, Call, State, DOMAINS, FREE, PAGES, RESERVED};
 use crate::random::Random;
+use crate::readings::{self, lowest_first};
 use crate::reply::Reply;
 
 const LONGEST_TABLE: usize = 4200;
@@ -34,6 +37,9 @@ pub fn set(seed: u64) -> Set {
     scripts.extend(from_empty_tables(&mut random));
     scripts.extend(from_any_tables(&mut random));
     scripts.extend(long_tables(&mut random));
+    let crowded = even::scripts(&mut random);
+    even::assert_told_apart(&crowded);
+    scripts.extend(crowded);
     put(&mut set, scripts.len());
     for script in &scripts {
         add(&mut set, script);
@@ -41,39 +47,56 @@ pub fn set(seed: u64) -> Set {
     set
 }
 
-struct Script {
-    start: State,
-    now: State,
-    calls: Vec<Call>,
+/// How calls run while a script is drawn.
+type Step = fn(&mut State, &Call, &mut [u16]) -> Reply<Answer>;
+
+pub struct Script {
+    pub start: State,
+    pub now: State,
+    pub calls: Vec<Call>,
+    step: Step,
 }
 
 impl Script {
-    fn new(board: Board, table: Vec<u16>) -> Self {
+    pub fn new(board: Board, table: Vec<u16>) -> Self {
         let start = State { board, table };
         Script {
             now: start.clone(),
             start,
             calls: Vec::new(),
+            step: State::call,
         }
     }
 
-    fn call(&mut self, call: Call) -> Reply<Answer> {
-        self.calls.push(call);
-        self.now.call(&call, &mut lent_list(call.room()))
+    /// A script whose calls were first drawn before document 02, No. 7. They are still drawn as if frames were
+    /// chosen lowest first, so that they stay what they were; what they answer is the model's.
+    fn lowest_first(board: Board, table: Vec<u16>) -> Self {
+        Script {
+            step: |state, call, moves| readings::call(state, call, moves, lowest_first),
+            ..Script::new(board, table)
+        }
     }
 
-    fn held_pages(&self, domain: u32) -> Vec<u32> {
+    pub fn call(&mut self, call: Call) -> Reply<Answer> {
+        self.calls.push(call);
+        (self.step)(&mut self.now, &call, &mut lent_list(call.room()))
+    }
+
+    /// The frames that the domain holds, each with its page.
+    pub fn held(&self, domain: u32) -> Vec<(usize, u32)> {
         let first = word(domain, 0);
         let words = self.now.table.iter().map(|held| u64::from(*held));
-        words
-            .filter_map(|held| held.checked_sub(first))
-            .filter(|page| *page < u64::from(PAGES))
-            .map(|page| page as u32)
+        let pages = words.map(|held| held.checked_sub(first));
+        pages
+            .enumerate()
+            .filter_map(|(frame, page)| Some((frame, page?)))
+            .filter(|(_, page)| *page < u64::from(PAGES))
+            .map(|(frame, page)| (frame, page as u32))
             .collect()
     }
 
     /// How many moves the recolouring would make, were its list long enough.
-    fn moves(&self, domain: u32, set: u32) -> Option<usize> {
+    pub fn moves(&self, domain: u32, set: u32) -> Option<usize> {
         let room = LONGEST_LIST;
         let call = Call::Recolour { domain, set, room };
         match self.now.clone().call(&call, &mut lent_list(room)) {
@@ -84,7 +107,7 @@ impl Script {
 }
 
 /// The move list before a call: no two words near each other are alike, and none is 0.
-fn lent_list(length: usize) -> Vec<u16> {
+pub fn lent_list(length: usize) -> Vec<u16> {
     (0..length).map(|i| ((i * 7 + 3) % 65_536) as u16).collect()
 }
 
@@ -363,10 +386,10 @@ fn any_recolour(random: &mut Random, script: &Script, domain: u32) -> Call {
 fn any_calls(random: &mut Random, script: &mut Script, pages: &[u32]) {
     for _ in 0..20 + random.below(41) {
         let domain = any_domain(random, script.start.board.domains);
-        let held = script.held_pages(domain);
+        let held = script.held(domain);
         let page = match held.is_empty() || random.below(3) > 0 {
             true => any_page(random, pages),
-            false => random.pick(&held),
+            false => random.pick(&held).1,
         };
         let call = match random.below(16) {
             0..=2 => Call::Look { domain, page },
@@ -404,27 +427,11 @@ fn from_empty_tables(random: &mut Random) -> Vec<Script> {
         let board = any_board(random);
         let table = empty_table(random, board.frames);
         let pages = any_pages(random);
-        let mut script = Script::new(board, table);
+        let mut script = Script::lowest_first(board, table);
         any_calls(random, &mut script, &pages);
         scripts.push(script);
     }
     scripts
-}
-
-/// A word that is seldom free: of the given pages, so that some stand twice and in frames of any colour; of
-/// domains at or beyond the count; at the edges between two domains; and of nobody.
-fn any_word(random: &mut Random, domains: u32, pages: &[u32]) -> u16 {
-    let page = random.pick(pages);
-    let edge = PAGES * random.below(9) as u32;
-    let any = match random.below(14) {
-        0..=7 => word(random.below(domains.into()) as u32, page),
-        8 => word(random.below(8) as u32, page),
-        9 => u64::from(edge) + random.below(2),
-        10 => random.pick(&[32_768, 32_769, 65_534]),
-        11 => random.below(65_536),
-        _ => RESERVED.into(),
-    };
-    any as u16
 }
 
 fn from_any_tables(random: &mut Random) -> Vec<Script> {
@@ -439,7 +446,7 @@ fn from_any_tables(random: &mut Random) -> Vec<Script> {
                 false => any_word(random, board.domains, &pages),
             })
             .collect();
-        let mut script = Script::new(board, table);
+        let mut script = Script::lowest_first(board, table);
         any_calls(random, &mut script, &pages);
         scripts.push(script);
     }
@@ -478,7 +485,7 @@ fn long_tables(random: &mut Random) -> Vec<Script> {
                 _ => FREE,
             })
             .collect();
-        let mut script = Script::new(board, table);
+        let mut script = Script::lowest_first(board, table);
         for set in [grant & !held, held, grant] {
             let Some(moves) = script.moves(0, set) else {
                 continue;

@@ -3,6 +3,7 @@
 
 mod admit;
 mod colours;
+mod even;
 mod frames;
 mod nested;
 mod plans;
