@@ -40,7 +40,7 @@ extern "C" {
  *     if (juzvanec_interface() != JUZVANEC_INTERFACE)
  *         do not boot
  */
-#define JUZVANEC_INTERFACE 3u
+#define JUZVANEC_INTERFACE 4u
 
 /* Limits. */
 #define JUZVANEC_MOST_COLOURS 16u
@@ -176,8 +176,10 @@ uint32_t juzvanec_look(const struct juzvanec_board *board, const uint16_t *table
                        uint32_t domain, uint32_t page, uint32_t *mapped, uint32_t *frame, uint32_t *row);
 
 /*
- * If the page is mapped, its lowest frame, and *is_new is 0. Else the lowest free frame with a colour in
- * the domain's active set: its word becomes the page word, and *is_new is 1. Refusals 2 to 8, 10, 12.
+ * If the page is mapped, its lowest frame, and *is_new is 0. Else a free frame with a colour in the domain's
+ * active set: of the colours with a free frame that in which the domain holds the fewest frames, the lowest on
+ * a tie, and of it the lowest free frame. Its word becomes the page word, and *is_new is 1. Refusals 2 to 8,
+ * 10, 12.
  */
 uint32_t juzvanec_fault(const struct juzvanec_board *board, uint16_t *table, size_t table_words,
                         uint32_t domain, uint32_t page, uint32_t *is_new, uint32_t *frame, uint32_t *row);
@@ -191,8 +193,9 @@ uint32_t juzvanec_colours(const struct juzvanec_board *board, const uint16_t *ta
                           uint32_t domain, uint32_t *set, uint32_t *row);
 
 /*
- * The domain's frames outside the new set, ascending, go to the free frames inside it, ascending; the old
- * frames become free, and the set is the domain's active one in the board. *count is the number of moves.
+ * The domain's frames outside the new set, ascending, go one by one to free frames inside it, each chosen as
+ * a fault chooses, with the frames that were moved before counted; no frame vacated on the way is taken. The
+ * old frames become free, and the set is the domain's active one in the board. *count is the number of moves.
  * The move list receives JUZVANEC_MOVE_WORDS words for each, in any order of moves, and its rest does not
  * change. The pages' contents are the caller's to copy. Refusals 2 to 9, 12, 13.
  */

@@ -124,8 +124,9 @@ pub fn look(board: &Board, table: &[u16], domain: u32, page: u32) -> Result<Look
     reply(number, row, looked)
 }
 
-/// If the page is mapped, its lowest frame; else the lowest free frame with a colour in the domain's
-/// active set, which gets the page's word. Refusals 2 to 8, 10, 12.
+/// If the page is mapped, its lowest frame; else a free frame with a colour in the domain's active set,
+/// which gets the page's word: of the colours with a free frame that in which the domain holds the fewest
+/// frames, the lowest on a tie, and of it the lowest free frame. Refusals 2 to 8, 10, 12.
 ///
 /// ```
 /// use juzvanec::{fault, Board, Faulted};
@@ -218,9 +219,10 @@ pub fn colours(board: &Board, table: &[u16], domain: u32) -> Result<u32, Refusal
     reply(number, row, set)
 }
 
-/// Makes the set active: the domain's frames outside it, ascending, go to the free frames inside it,
-/// ascending. The answer is the count of moves; the move list gets a page, an old and a new frame for
-/// each, and its rest does not change. The order of the moves is left open. Refusals 2 to 9, 12, 13.
+/// Makes the set active: the domain's frames outside it, ascending, go one by one to free frames inside
+/// it, each chosen as [`fault`] chooses, with the frames that were moved before counted. The answer is the
+/// count of moves; the move list gets a page, an old and a new frame for each, and its rest does not
+/// change. The order of the moves is left open. Refusals 2 to 9, 12, 13.
 ///
 /// ```
 /// use juzvanec::{recolour, Board};

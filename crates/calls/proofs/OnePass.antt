@@ -1,180 +1,225 @@
--- The theorem of document 02, No. 2: the numbers kept after any first part of the table, with the words after it, give the fault's answer and the
--- frame that gets the word; and that these numbers are few and small. The code of the fault goes by its three cases at the end.
-use Prim.Native.Nat.{ℕ, _+_, _-_, _<_, _≤_}
+-- The theorem of document 02, No. 2, with the choice of No. 7: the numbers kept after any first part of the table, with the words after it, give the fault's
+-- answer and the frame that gets the word; and that these numbers are few and small. The code of the fault goes by its three cases at the end.
+use Prim.Native.Nat.{ℕ, suc, _+_, _-_, _^_, _<_, _≤_}
+use native.Mathlib.Nat.{lt-irrefl}
 use native.Mathlib.Omega.{arith}
 use mathlib.Core.Bool.{Bool, true, false, _&&_}
 use mathlib.Core.List.{List, [], _∷_, _++_}
-use mathlib.Core.Path.{_≡_, refl, sym, ap, ap₂, _∙_}
+use mathlib.Core.Path.{_≡_, refl, sym, ap, _∙_}
 use lib.Dec.{eqb, ltb}
-use lib.ListN.{length, getD, length-append}
-use borrow.Author.Tests.{lt-ltb, le-ltb, ltb-false}
+use lib.Bits.{bitAnd, and-le-r}
+use lib.ListN.{length, length-append}
+use borrow.Author.Tests.{lt-ltb, le-ltb, eqb-true, not-false}
 use Rattle.lists.specs.Range.{upto, keep, any, lowest, isEmpty}
 use Rattle.lists.proofs.Split.{below-or-not, neither}
+use Rattle.lists.proofs.Members.{member-has}
 use Rattle.lists.proofs.Found.{kept-found, kept-missed}
-use Rattle.lists.proofs.Same.{same-lowest}
 use Rattle.refusal.specs.Reply.{Answers, Refuses, test, unless, passes}
+use Rattle.colours.specs.Cache.{isColourCount}
+use Rattle.colours.proofs.Ranges.{count-range, colour-set}
 use Rattle.board.specs.declared.Board.{Board}
-use Rattle.board.specs.Tests.{activeSet}
+use Rattle.board.specs.Tests.{grant, activeSet}
 use Rattle.board.proofs.Passed.{Accepted}
-use Rattle.calls.specs.Table.{State, stateOf, wordOf, inSet, hasWord, isFree, framesWith, mappedTo, isChoice, choices}
-use Rattle.calls.specs.Calls.{Outcome, Old, New, settle, pageTests, written, faultDone, fault}
-use Rattle.calls.proofs.Settled.{ten-passed, ten-accepted}
 use Rattle.kept.specs.declared.Kept.{Kept}
-use Rattle.kept.specs.Kept.{noLane, start, numbers, soFar, found}
-use Rattle.calls.specs.OnePass.{lanesOf, after, answerOf, takerOf, answer, taker, withWord}
-use Rattle.kept.proofs.Closed.{settled, settled-word, settled-free, settled-none, isTaken, take-append, in-the-end, Sound, sound}
-use Rattle.calls.proofs.Lanes.{lanes-count, lane-flags, lane-is-open}
-
-first-part : (b : Board) (d p : ℕ) (xs : List ℕ) → Sound (wordOf d p) 0 xs (after b d p xs)
-unfolding after start
-first-part b d p xs = sound (wordOf d p) 0 xs (lanesOf (b .colours) (activeSet b d)) (lanes-count (b .colours) (activeSet b d)) (lane-flags (b .colours) (activeSet b d))
-
--- lists of numbers that fit in 16 bits
-over-either : (xs ys : List ℕ) → any (ltb 65535) xs ≡ false → any (ltb 65535) ys ≡ false → any (ltb 65535) (xs ++ ys) ≡ false
-over-either [] ys e h = h
-over-either (x ∷ xs) ys e h = let r = neither (ltb 65535 x) (any (ltb 65535) xs) e in rw (r .0) (over-either xs ys (r .1) h)
-
-over-flags : (xs : List ℕ) → any (ltb 1) xs ≡ false → any (ltb 65535) xs ≡ false
-over-flags [] e = refl
-over-flags (x ∷ xs) e =
-    let r = neither (ltb 1 x) (any (ltb 1) xs) e in
-    rw (le-ltb 65535 x (omega (arith, ltb-false 1 x (r .0)))) (over-flags xs (r .1))
-
--- twenty numbers, and the words of a block of sixteen
-pub few-numbers :
-    (b : Board) (d p : ℕ) (xs bs : List ℕ) → d < 8 → p ≤ 4095 → length xs ≤ 4096 → length bs ≤ 16 → any (ltb 65535) bs ≡ false
-    → (length (numbers (after b d p xs) bs) ≤ 64) × (any (ltb 65535) (numbers (after b d p xs) bs) ≡ false)
-unfolding numbers
-few-numbers b d p xs bs dl pl xl bl small =
-    let k : Kept = after b d p xs in
-    let r = first-part b d p xs in (
-      omega (arith, length-append (k .shut) bs, r .lanes),
-      rw (
-        le-ltb 65535 (k .word) (omega (arith, r)),
-        le-ltb 65535 (k .taken) (omega (arith, r)),
-        le-ltb 65535 (k .mapped) (omega (arith, r)),
-        le-ltb 65535 (k .free) (omega (arith, r)),
-      )
-          (over-either (k .shut) bs (over-flags (k .shut) (r .flags)) small),
-    )
+use Rattle.kept.specs.Kept.{isOwn, zeros, Within, countAll, noteAll, start, soFar, found, numbers}
+use Rattle.kept.proofs.Closed.{zeros-length, zeros-within, take-append, has-come, not-come, sound}
+use Rattle.calls.specs.Table.{State, stateOf, wordOf, hasWord, isFree, isHeld, framesWith, mappedTo}
+use Rattle.calls.specs.Choices.{nextFrame, choices}
+use Rattle.calls.specs.Calls.{Outcome, Old, New, settle, pageTests, written, faultDone, fault}
+use Rattle.calls.specs.OnePass.{after, frameFor, answerOf, takerOf, answer, taker, withWord, allNumbers}
+use Rattle.calls.proofs.Settled.{ten-passed, ten-accepted}
+use Rattle.calls.proofs.Choice.{next-some, next-first, next-none}
+use Rattle.calls.proofs.Lanes.{frame-is}
 
 module _ (b : Board) (d p : ℕ) (t : List ℕ) (ok : passes (pageTests b (length t) d p) ≡ true) where
   abbrev s : State
   s = stateOf b t
 
-  abbrev n : ℕ
-  n = length t
-
   abbrev w : ℕ
   w = wordOf d p
 
-  fine : Accepted b n d
-  fine = ten-accepted b n d p ok .0
+  fine : Accepted b (length t) d
+  fine = ten-accepted b (length t) d p ok .0
+
+  coloured : 0 < b .colours
+  coloured = omega (arith, count-range (b .colours) (fine .passed .count))
 
   abbrev holds : ℕ → Bool
   holds = hasWord t w
 
-  abbrev free : ℕ → Bool
-  free = isFree t (b .colours) (activeSet b d)
+  abbrev gs : List ℕ
+  gs = choices s d (activeSet b d)
 
-  abbrev faulted : List ℕ → List ℕ → Outcome
-  faulted fs gs = settle s (unless (test 12 (isEmpty fs && isEmpty gs) ∷ []) (faultDone s w fs gs))
+  -- the frame that the domain takes next
+  abbrev g : ℕ
+  g = nextFrame (b .colours) (b .frames) (isFree t (b .colours) (activeSet b d)) (isHeld t d)
 
-  mapped-is : mappedTo s d p ≡ keep holds (upto n)
+  abbrev faulted : List ℕ → Outcome
+  faulted fs = settle s (unless (test 12 (isEmpty fs && isEmpty gs) ∷ []) (faultDone s w fs gs))
+
+  mapped-is : mappedTo s d p ≡ keep holds (upto (length t))
   unfolding mappedTo framesWith
   mapped-is = rw (fine .bounds .long)
 
-  choices-is : choices s d (activeSet b d) ≡ keep free (upto n)
-  unfolding choices isChoice framesWith
-  choices-is = rw (fine .bounds .long)
-
-  fault-is : fault s d p ≡ faulted (keep holds (upto n)) (keep free (upto n))
+  fault-is : fault s d p ≡ faulted (keep holds (upto (length t)))
   unfolding fault
   fault-is =
-      ten-passed s d p (test 12 (isEmpty (mappedTo s d p) && isEmpty (choices s d (activeSet b d))) ∷ [])
-      (faultDone s w (mappedTo s d p) (choices s d (activeSet b d))) ok
-      ∙ ap₂ faulted mapped-is choices-is
+      ten-passed s d p (test 12 (isEmpty (mappedTo s d p) && isEmpty gs) ∷ []) (faultDone s w (mappedTo s d p) gs) ok
+      ∙ ap faulted mapped-is
 
   -- the fault's outcome, by what is kept
   abbrev given : Kept → Outcome
-  given k = record { reply = answerOf k; moves = []; next = stateOf b (withWord (takerOf k) w t) }
+  given k = record { reply = answerOf b d k; moves = []; next = stateOf b (withWord (b .frames) (takerOf b d k) w t) }
 
-  abbrev lanes : List ℕ
-  lanes = lanesOf (b .colours) (activeSet b d)
+  -- the page has a frame
+  module _ (k : Kept) where
+    given-old : 0 < k .mapped → given k ≡ record { reply = Answers (Old (k .mapped - 1)); moves = []; next = s }
+    unfolding answerOf takerOf withWord
+    given-old l = simp (lt-ltb 0 (k .mapped) l, le-ltb (b .frames) (b .frames) (omega arith))
 
-  -- the lowest frame with the word, and the lowest that would be taken
-  abbrev m : ℕ
-  m = lowest holds n
+    module _ (none : k .mapped ≤ 0) where
+      given-new : frameFor b d k < b .frames → given k ≡ record { reply = Answers (New (frameFor b d k)); moves = []; next = written s (frameFor b d k) w }
+      unfolding answerOf takerOf withWord
+      given-new l = simp (le-ltb 0 (k .mapped) none, lt-ltb (frameFor b d k) (b .frames) l)
 
-  abbrev g : ℕ
-  g = lowest free n
+      given-none : b .frames ≤ frameFor b d k → given k ≡ record { reply = Refuses 12 0; moves = []; next = s }
+      unfolding answerOf takerOf withWord
+      given-none l = simp (le-ltb 0 (k .mapped) none, le-ltb (frameFor b d k) (b .frames) l)
 
-  -- frames are kept as 1 and their numbers
-  module _ (f : ℕ) where
-    there : ltb 0 (0 + f + 1) ≡ true
-    there = lt-ltb 0 (0 + f + 1) (omega arith)
+  -- the fault, by the lowest frame with the word and the frame to take
+  old-is : lowest holds (length t) < length t → fault s d p ≡ record { reply = Answers (Old (lowest holds (length t))); moves = []; next = s }
+  unfolding unless settle
+  old-is l = fault-is ∙ ap faulted (kept-found holds (length t) l)
 
-    number : 0 + f + 1 - 1 ≡ f
-    number = omega arith
+  unmapped : length t ≤ lowest holds (length t) → fault s d p ≡ faulted []
+  unmapped h = fault-is ∙ ap faulted (kept-missed holds (length t) h)
 
-  by-word : m < n → given (found w (0 + m + 1)) ≡ fault s d p
-  unfolding answerOf takerOf withWord unless settle
-  by-word l = simp (there m, number m) (sym (fault-is ∙ ap (λ (fs : List ℕ). faulted fs (keep free (upto n))) (kept-found holds n l)))
+  new-is : length t ≤ lowest holds (length t) → g < b .frames → fault s d p ≡ record { reply = Answers (New g); moves = []; next = written s g w }
+  unfolding unless settle
+  new-is h l =
+      unmapped h
+      ∙ rw (next-some s d (activeSet b d) coloured l)
+      (ap (λ (f : ℕ). record { reply = Answers (New f); moves = []; next = written s f w }) (next-first s d (activeSet b d) coloured l))
 
-  by-free : n ≤ m → g < n → given (soFar w noLane (0 + n) (0 + g + 1)) ≡ fault s d p
-  unfolding answerOf takerOf withWord unless settle
-  by-free h l = simp (there g, number g) (sym (fault-is ∙ ap₂ faulted (kept-missed holds n h) (kept-found free n l)))
-
-  by-none : n ≤ m → n ≤ g → given (soFar w lanes (0 + n) 0) ≡ fault s d p
-  unfolding answerOf takerOf withWord unless settle
-  by-none h l = sym (fault-is ∙ ap₂ faulted (kept-missed holds n h) (kept-missed free n l))
-
-  -- an open lane is one with an active colour
-  free-in-lane : lowest (isTaken w 0 t lanes) n ≡ g
-  free-in-lane =
-      same-lowest (isTaken w 0 t lanes) free n
-      (λ f l. ap (λ (o : Bool). eqb (getD t f 0) 0 && o) (lane-is-open (b .colours) (activeSet b d) (0 + f) (fine .passed .count) ∙ ap (inSet (b .colours) (activeSet b d)) (omega arith)))
-
-  by-case : given (settled w 0 t lanes 0 m g) ≡ fault s d p
-  by-case =
-      below-or-not m n
-      (λ l. ap given (settled-word w 0 t lanes 0 m g l) ∙ by-word l)
-      (λ h.
-      below-or-not g n
-      (λ l. ap given (settled-free w 0 t lanes 0 m g h l) ∙ by-free h l)
-      (λ l. ap given (settled-none w 0 t lanes 0 m g h l) ∙ by-none h l))
+  none-is : length t ≤ lowest holds (length t) → b .frames ≤ g → fault s d p ≡ record { reply = Refuses 12 0; moves = []; next = s }
+  unfolding unless settle
+  none-is h l = unmapped h ∙ rw (next-none s d (activeSet b d) coloured l) refl
 
   -- all words taken in
-  pub whole-pass : given (after b d p t) ≡ fault s d p
+  abbrev pub end : Kept
+  end = after d p t
+
+  abbrev pub lanes : Kept
+  lanes = soFar w (wordOf d 0) (countAll (isOwn (wordOf d 0)) zeros 0 t) (noteAll zeros 0 t) (0 + length t)
+
+  end-come : lowest holds (length t) < length t → end ≡ found w (wordOf d 0) (0 + lowest holds (length t) + 1)
   unfolding after start
+  end-come h = has-come w (wordOf d 0) 0 t zeros zeros h
+
+  end-passed : length t ≤ lowest holds (length t) → end ≡ lanes
+  unfolding after start
+  end-passed h = not-come w (wordOf d 0) 0 t zeros zeros h
+
+  -- where the page's word has not come, the lanes have the whole table
+  pub end-lanes : end .mapped ≤ 0 → end ≡ lanes
+  end-lanes none =
+      let low : ℕ = lowest holds (length t) in
+      below-or-not low (length t)
+      (λ h. absurd (lt-irrefl 0 (omega (arith, none, ap (λ (k : Kept). k .mapped) (end-come h)))))
+      end-passed
+
+  -- the lanes give the frame that the domain takes
+  frame-for : frameFor b d lanes ≡ g
+  unfolding frameFor
+  frame-for = rw (← (fine .bounds .long)) (frame-is (b .colours) d t (activeSet b d) (fine .passed .count))
+
+  pub whole-pass : given end ≡ fault s d p
   whole-pass =
-      ap given (in-the-end w 0 t lanes 0 ∙ ap (settled w 0 t lanes 0 m) free-in-lane)
-      ∙ by-case
+      let low : ℕ = lowest holds (length t) in
+      below-or-not low (length t)
+      (λ h.
+      let number : 0 + low + 1 - 1 ≡ low = omega arith in
+      ap given (end-come h)
+      ∙ given-old (found w (wordOf d 0) (0 + low + 1)) (omega arith)
+      ∙ ap (λ (f : ℕ). record { reply = Answers (Old f); moves = []; next = s }) number
+      ∙ sym (old-is h))
+      (λ h.
+      ap given (end-passed h)
+      ∙ below-or-not g (b .frames)
+      (λ l.
+      given-new lanes (omega arith) (omega (arith, frame-for))
+      ∙ ap (λ (f : ℕ). record { reply = Answers (New f); moves = []; next = written s f w }) frame-for
+      ∙ sym (new-is h l))
+      (λ l. given-none lanes (omega arith) (omega (arith, frame-for)) ∙ sym (none-is h l)))
 
   -- the first part xs, the words bs of the block under way, and the words ys after them
   pub one-pass :
       (xs bs ys : List ℕ)
       → t ≡ xs ++ (bs ++ ys)
-      → let k = after b d p xs in
-      fault s d p ≡ record { reply = answer k (bs ++ ys); moves = []; next = stateOf b (withWord (taker k (bs ++ ys)) w t) }
+      → let k = after d p xs in
+      fault s d p ≡ record { reply = answer b d k (bs ++ ys); moves = []; next = stateOf b (withWord (b .frames) (taker b d k (bs ++ ys)) w t) }
   unfolding after answer taker
-  one-pass xs bs ys e = sym whole-pass ∙ ap given (ap (after b d p) e ∙ take-append (start w lanes) xs (bs ++ ys))
+  one-pass xs bs ys e = sym whole-pass ∙ ap given (ap (after d p) e ∙ take-append (start w (wordOf d 0)) xs (bs ++ ys))
 
   -- the outcome, by what is known in the end
-  abbrev pub end : Kept
-  end = after b d p t
-
-  pub end-sound : Sound w 0 t end
-  end-sound = first-part b d p t
-
   pub old-frame : 0 < end .mapped → fault s d p ≡ record { reply = Answers (Old (end .mapped - 1)); moves = []; next = s }
-  unfolding answerOf takerOf withWord
-  old-frame l = sym whole-pass ∙ simp (lt-ltb 0 (end .mapped) l)
+  old-frame l = sym whole-pass ∙ given-old end l
 
-  pub new-frame : end .mapped ≤ 0 → 0 < end .free → fault s d p ≡ record { reply = Answers (New (end .free - 1)); moves = []; next = written s (end .free - 1) w }
-  unfolding answerOf takerOf withWord
-  new-frame h l = sym whole-pass ∙ simp (le-ltb 0 (end .mapped) h, lt-ltb 0 (end .free) l, end-sound .same-word)
+  pub new-frame : end .mapped ≤ 0 → frameFor b d end < b .frames → fault s d p ≡ record { reply = Answers (New (frameFor b d end)); moves = []; next = written s (frameFor b d end) w }
+  new-frame h l = sym whole-pass ∙ given-new end h l
 
-  pub no-frame : end .mapped ≤ 0 → end .free ≤ 0 → fault s d p ≡ record { reply = Refuses 12 0; moves = []; next = s }
-  unfolding answerOf takerOf withWord
-  no-frame h l = sym whole-pass ∙ simp (le-ltb 0 (end .mapped) h, le-ltb 0 (end .free) l)
+  pub no-frame : end .mapped ≤ 0 → b .frames ≤ frameFor b d end → fault s d p ≡ record { reply = Refuses 12 0; moves = []; next = s }
+  no-frame h l = sym whole-pass ∙ given-none end h l
+
+-- the page's frame is one of those taken in
+pub end-below : (d p : ℕ) (xs : List ℕ) → after d p xs .mapped ≤ length xs
+unfolding after start
+end-below d p xs =
+    let r = sound (wordOf d p) (wordOf d 0) 0 xs zeros zeros zeros-length zeros-length (zeros-within 0) (zeros-within 0) in
+    omega (arith, r .mapped-below)
+
+-- Lists of numbers that fit in 16 bits
+over-either : (xs ys : List ℕ) → any (ltb 65535) xs ≡ false → any (ltb 65535) ys ≡ false → any (ltb 65535) (xs ++ ys) ≡ false
+over-either [] ys e h = h
+over-either (x ∷ xs) ys e h = let r = neither (ltb 65535 x) (any (ltb 65535) xs) e in rw (r .0) (over-either xs ys (r .1) h)
+
+over-lanes : (m : ℕ) (l : List ℕ) → m ≤ 65535 → Within m l → any (ltb 65535) l ≡ false
+over-lanes m [] small h = refl
+over-lanes m (x ∷ xs) small h = rw (le-ltb 65535 x (omega (arith, h 0))) (over-lanes m xs small (λ i. h (suc i)))
+
+-- a set of at most sixteen colours
+sixteen-bits : (n : ℕ) → isColourCount n ≡ true → 2 ^ n ≤ 65536
+unfolding isColourCount
+sixteen-bits n e = member-has (λ (m : ℕ). 2 ^ m ≤ 65536) n (1 ∷ 2 ∷ 4 ∷ 8 ∷ 16 ∷ []) (omega arith, (omega arith, (omega arith, (omega arith, (omega arith, tt))))) e
+
+-- seven numbers, 32 lanes, and the words of a block of sixteen
+module _ (b : Board) (d p words : ℕ) (ok : passes (pageTests b words d p) ≡ true) where
+  active-small : activeSet b d ≤ 65535
+  active-small =
+      let a = ten-accepted b words d p ok .0 in
+      let set = colour-set (b .colours) (grant b d) (not-false _ (a .passed .grants d (a .caller))) in
+      let part : bitAnd (activeSet b d) (grant b d) ≡ activeSet b d = eqb-true _ _ (not-false _ (neither (eqb (activeSet b d) 0) _ (a .passed .actives d (a .caller)) .1)) in
+      omega (arith, set .below, part, and-le-r (activeSet b d) (grant b d), sixteen-bits (b .colours) (a .passed .count))
+
+  pub few-numbers :
+      (xs bs : List ℕ) → length xs ≤ words → length bs ≤ 16 → any (ltb 65535) bs ≡ false
+      → (length (allNumbers b d (after d p xs) bs) ≤ 64) × (any (ltb 65535) (allNumbers b d (after d p xs) bs) ≡ false)
+  unfolding allNumbers numbers after start
+  few-numbers xs bs xl bl small =
+      let k : Kept = after d p xs in
+      let a = ten-accepted b words d p ok in
+      let r = sound (wordOf d p) (wordOf d 0) 0 xs zeros zeros zeros-length zeros-length (zeros-within 0) (zeros-within 0) in
+      let m : ℕ = 0 + length xs in
+      let l : m ≤ 65535 = omega (arith, a .0 .bounds) in (
+        omega (arith, length-append (k .held) (k .free ++ bs), length-append (k .free) bs, r .held-lanes, r .free-lanes),
+        rw (
+          le-ltb 65535 (b .colours) (omega (arith, count-range (b .colours) (a .0 .passed .count))),
+          le-ltb 65535 (b .frames) (omega (arith, a .0 .bounds)),
+          le-ltb 65535 (activeSet b d) active-small,
+          le-ltb 65535 (k .word) (omega (arith, r .same-word, a .0 .bounds, a .0 .caller, a .1)),
+          le-ltb 65535 (k .first) (omega (arith, r .same-first, a .0 .bounds, a .0 .caller)),
+          le-ltb 65535 (k .taken) (omega (arith, r .taken-below)),
+          le-ltb 65535 (k .mapped) (omega (arith, r .mapped-below)),
+        )
+            (over-either (k .held) (k .free ++ bs) (over-lanes m (k .held) l (r .held-below)) (over-either (k .free) bs (over-lanes m (k .free) l (r .free-below)) small)),
+      )

@@ -9,7 +9,8 @@ use Rattle.lists.specs.Range.{headOr, isEmpty}
 use Rattle.refusal.specs.Reply.{Reply, Answers, Refuses, Test, test, unless}
 use Rattle.board.specs.declared.Board.{Board}
 use Rattle.board.specs.Tests.{grant, activeSet, emptyOrOutside, callTests}
-use Rattle.calls.specs.Table.{State, word, wordOf, pageFor, mappedTo, choices, strays}
+use Rattle.calls.specs.Table.{State, word, wordOf, pageFor, mappedTo, strays}
+use Rattle.calls.specs.Choices.{choices}
 
 -- what a call answers
 pub data Answer : Type 0 where
@@ -76,7 +77,7 @@ lookAnswer (f ∷ fs) = Mapped f
 unfoldable pub look : State → ℕ → ℕ → Outcome
 look s d p = called s d (pageTest p ∷ []) (only s (lookAnswer (mappedTo s d p)))
 
--- fault: if the page is mapped, that frame; else the lowest free frame with a colour in the active set, which gets the word.
+-- fault: if the page is mapped, that frame; else the first free frame that the domain takes for its active set, which gets the word.
 -- 12: an unmapped page faults and no free frame has an active colour
 abbrev pub faultDone : State → ℕ → List ℕ → List ℕ → Done
 faultDone s w (f ∷ fs) gs = only s (Old f)
@@ -99,7 +100,7 @@ release s d p =
 unfoldable pub colours : State → ℕ → Outcome
 colours s d = called s d [] (only s (Active (activeSet (s .board) d)))
 
--- recolour: the domain's frames outside the new set, ascending, go one by one to the free frames inside it, ascending
+-- recolour: the domain's frames outside the new set, ascending, go one by one to the free frames that it takes for that set
 unfoldable pub pairUp : ℕ → List ℕ → List ℕ → List ℕ → List Move
 pairUp d t [] gs = []
 pairUp d t (v ∷ vs) [] = []

@@ -1,4 +1,5 @@
 -- What the five calls mean, what they write to a move list, and what a fault answers by the numbers that it keeps.
 pub mod Table
+pub mod Choices
 pub mod Calls
 pub mod OnePass

@@ -1,46 +1,71 @@
--- A fault by what it keeps while it takes in the words of the table (`kept`): document 02, No. 2. The numbers kept after any first part of the table,
--- with the words still to come, give its answer and the frame that gets the word.
+-- A fault by what it keeps while it takes in the words of the table (`kept`): document 02, Nos. 2 and 7. The numbers kept after any first part of the
+-- table, with the words still to come, give its answer and the frame that gets the word.
 use Prim.Native.Nat.{ℕ, _-_}
-use mathlib.Core.List.{List, map}
-use lib.Dec.{ltb}
+use mathlib.Core.Bool.{Bool, _&&_}
+use mathlib.Core.List.{List, _∷_}
+use lib.Dec.{eqb, ltb}
 use lib.ListN.{set}
 use Rattle.lists.specs.Choice.{if_then_else_}
-use Rattle.lists.specs.Range.{upto}
+use Rattle.lists.specs.Range.{fewest}
 use Rattle.refusal.specs.Reply.{Reply, Answers, Refuses}
+use Rattle.colours.specs.Cache.{colourOf}
+use Rattle.colours.specs.Sets.{has}
 use Rattle.board.specs.declared.Board.{Board}
 use Rattle.board.specs.Tests.{activeSet}
 use Rattle.kept.specs.declared.Kept.{Kept}
-use Rattle.kept.specs.Kept.{start, takeAll}
-use Rattle.calls.specs.Table.{wordOf, inSet}
+use Rattle.kept.specs.Kept.{start, takeAll, numbers}
+use Rattle.kept.specs.Lanes.{sumLanes, leastLane}
+use Rattle.calls.specs.Table.{wordOf}
 use Rattle.calls.specs.Calls.{Answer, Old, New}
 
--- a lane is open where its colour, of n, is in set c
-unfoldable pub laneOf : ℕ → ℕ → ℕ → ℕ
-laneOf n c i = if inSet n c i then 0 else 1
+-- lane i has colour x, of n
+abbrev pub isLaneOf : ℕ → ℕ → ℕ → Bool
+isLaneOf n x i = eqb (colourOf n i) x
 
-unfoldable pub lanesOf : ℕ → ℕ → List ℕ
-lanesOf n c = map (laneOf n c) (upto 16)
+-- By the lanes, on a board of n colours and m frames: how many frames of colour x the domain holds, and the lowest free one, or m where none is
+unfoldable pub heldBy : ℕ → List ℕ → ℕ → ℕ
+heldBy n held x = sumLanes (isLaneOf n x) held
 
--- What is kept after the first words of a table, in a fault of domain d for page p: at the start, the page's word and the lanes of the active set.
-unfoldable pub after : Board → ℕ → ℕ → List ℕ → Kept
-after b d p xs = takeAll (start (wordOf d p) (lanesOf (b .colours) (activeSet b d))) xs
+unfoldable pub freeBy : ℕ → ℕ → List ℕ → ℕ → ℕ
+freeBy n m free x = leastLane (isLaneOf n x) free m
 
--- What is kept when no word is left gives the answer: the page's frame, else the free frame, else refusal 12
-unfoldable pub answerOf : Kept → Reply Answer
-answerOf k =
-    if ltb 0 (k .mapped) then Answers (Old (k .mapped - 1)) else if ltb 0 (k .free) then Answers (New (k .free - 1)) else Refuses 12 0
+-- of the colours of set c with a free frame, the one with the fewest held, the lowest on a tie; and its lowest free frame
+unfoldable pub colourBy : ℕ → ℕ → ℕ → List ℕ → List ℕ → ℕ
+colourBy n m c held free = fewest (λ x. has c x && ltb (freeBy n m free x) m) (heldBy n held) n
 
--- and the frame that gets the word, which is the free frame where the page has none
-unfoldable pub takerOf : Kept → ℕ
-takerOf k = if ltb 0 (k .mapped) then 0 else k .free
+unfoldable pub frameBy : ℕ → ℕ → ℕ → List ℕ → List ℕ → ℕ
+frameBy n m c held free = freeBy n m free (colourBy n m c held free)
+
+-- What is kept after the first words of a table, in a fault of domain d for page p
+unfoldable pub after : ℕ → ℕ → List ℕ → Kept
+after d p xs = takeAll (start (wordOf d p) (wordOf d 0)) xs
+
+-- the frame to take unless the page has one, or the number of frames
+unfoldable pub frameFor : Board → ℕ → Kept → ℕ
+frameFor b d k = frameBy (b .colours) (b .frames) (activeSet b d) (k .held) (k .free)
+
+-- What is kept when no word is left gives the answer: the page's frame, else the frame to take, else refusal 12
+unfoldable pub answerOf : Board → ℕ → Kept → Reply Answer
+answerOf b d k =
+    if ltb 0 (k .mapped) then Answers (Old (k .mapped - 1))
+    else if ltb (frameFor b d k) (b .frames) then Answers (New (frameFor b d k))
+    else Refuses 12 0
+
+-- and the frame that gets the word, or the number of frames where none does
+unfoldable pub takerOf : Board → ℕ → Kept → ℕ
+takerOf b d k = if ltb 0 (k .mapped) then b .frames else frameFor b d k
 
 -- what is kept gives them with the words that are still to come
-unfoldable pub answer : Kept → List ℕ → Reply Answer
-answer k xs = answerOf (takeAll k xs)
+unfoldable pub answer : Board → ℕ → Kept → List ℕ → Reply Answer
+answer b d k xs = answerOf b d (takeAll k xs)
 
-unfoldable pub taker : Kept → List ℕ → ℕ
-taker k xs = takerOf (takeAll k xs)
+unfoldable pub taker : Board → ℕ → Kept → List ℕ → ℕ
+taker b d k xs = takerOf b d (takeAll k xs)
 
--- a table in which such a frame, if there is one, has got word w
-unfoldable pub withWord : ℕ → ℕ → List ℕ → List ℕ
-withWord f w t = if ltb 0 f then set t (f - 1) w else t
+-- a table of so many frames in which such a frame, if there is one, has got word w
+unfoldable pub withWord : ℕ → ℕ → ℕ → List ℕ → List ℕ
+withWord m f w t = if ltb f m then set t f w else t
+
+-- all numbers that are kept: what the call gives of the board, those of the record, and the words of the block under way
+unfoldable pub allNumbers : Board → ℕ → Kept → List ℕ → List ℕ
+allNumbers b d k block = b .colours ∷ b .frames ∷ activeSet b d ∷ numbers k block

@@ -61,13 +61,9 @@ framesWith s p = keep p (upto (s .board .frames))
 unfoldable pub mappedTo : State → ℕ → ℕ → List ℕ
 mappedTo s d p = framesWith s (hasWord (s .table) (wordOf d p))
 
--- frame f may be taken by domain d for set c
-unfoldable pub isChoice : State → ℕ → ℕ → ℕ → Bool
-isChoice s d c f = isFree (s .table) (s .board .colours) c f
-
--- the frames that it may take, in the order in which they are taken
-unfoldable pub choices : State → ℕ → ℕ → List ℕ
-choices s d c = framesWith s (isChoice s d c)
+-- the free frames with a colour in a set
+unfoldable pub frees : State → ℕ → List ℕ
+frees s c = framesWith s (isFree (s .table) (s .board .colours) c)
 
 -- the domain's frames with a colour outside a set
 unfoldable pub strays : State → ℕ → ℕ → List ℕ

@@ -7,12 +7,13 @@ use mathlib.Core.Logic.{_↔_, inl}
 use mathlib.Core.Path.{_≡_, refl, ap}
 use lib.ListN.{getD-replicate}
 use borrow.Author.Tests.{le-ltb}
-use Rattle.lists.specs.Range.{from, keep}
+use Rattle.lists.specs.Range.{from, keep, lowestFrom, isFewest, fewest}
 use Rattle.refusal.specs.Reply.{Reply, each, unless, passes}
 use Rattle.colours.specs.Sets.{isColourSet, has}
 use Rattle.colours.specs.Cache.{isColourCount}
 use Rattle.board.specs.Tests.{domainTests, boardTests, callTests}
-use Rattle.calls.specs.Table.{framesWith, mappedTo, isChoice, choices, strays}
+use Rattle.calls.specs.Table.{framesWith, mappedTo, frees, strays}
+use Rattle.calls.specs.Choices.{inColour, nextColour, nextFrame, taken, choices}
 use Rattle.calls.specs.Calls.{Answer, settle, called, look, fault, release, colours, pairUp, moveAll, recolour}
 use Rattle.isolation.specs.DomainRule.{Call, run, own, Program, Accepted, Empty}
 use Rattle.isolation.proofs.Theorems.{the-domain-rule}
@@ -42,7 +43,8 @@ replays :
     × (ColoursAlike recoloured nothing → ⊥) × MapsAlike recoloured nothing
     × (run recorder (own 0 straight) ≡ run recorder (own 0 roundabout))
 unfolding
-    from keep unless each isColourSet has isColourCount domainTests boardTests callTests framesWith mappedTo isChoice choices strays
+    from keep lowestFrom isFewest fewest unless each isColourSet has isColourCount domainTests boardTests callTests
+    framesWith mappedTo frees strays inColour nextColour nextFrame taken choices
     settle called look fault release colours pairUp moveAll recolour run own says sameList numbers
 replays = (
   λ same. false≢true (ap (says (2 ∷ [])) (same 9 (omega arith))),

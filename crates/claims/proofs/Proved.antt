@@ -4,7 +4,7 @@ use Rattle.lists.proofs.Members.{member-has}
 use Rattle.colours.proofs.Bits.{place-ones}
 use Rattle.colours.proofs.Drop.{masked, shifted}
 use Rattle.colours.proofs.Theorems as colour
-use Rattle.calls.specs.Table.{choices}
+use Rattle.calls.specs.Choices.{choices}
 use Rattle.calls.proofs.Choice.{Chosen, chosen, choice-local}
 use Rattle.isolation.proofs.Theorems as history
 use Rattle.calls.proofs.OnePass as pass
@@ -25,6 +25,7 @@ use Rattle.claims.specs.Rounds.{RoundClaims}
 use Rattle.claims.specs.Interface.{InterfaceClaims}
 use Rattle.claims.specs.Claims.{Claims}
 use Rattle.claims.proofs.Looks.{look-claims}
+use Rattle.claims.proofs.EvenUse.{even-use-claims}
 use Rattle.claims.proofs.Reload.{reloaded-counts}
 use Rattle.claims.proofs.Rounds as reached
 
@@ -56,8 +57,8 @@ history-claims =
       one-frame-a-page = history.one-frame-a-page;
       held-in-grant = history.held-in-grant;
       no-shared-cache-set = history.no-shared-cache-set;
-      chosen-is-free = λ s d c f e.
-          let r = member-has (Chosen s c) f (choices s d c) (chosen s d c) e in
+      chosen-is-free = λ s d c f coloured e.
+          let r = member-has (Chosen s c) f (choices s d c) (chosen s d c coloured) e in
           (r .below, r .free, r .inside);
       choice-local = choice-local;
     }
@@ -135,6 +136,7 @@ claims =
       domain-rule = history.the-domain-rule;
       histories = history-claims;
       looks = look-claims;
+      even-use = even-use-claims;
       one-pass = one-pass-claims;
       supply = supply-claims;
       times = time-claims;

@@ -7,6 +7,7 @@ use Rattle.examples.specs.Table.{examples}
 use Rattle.claims.specs.Colours.{ColourClaims}
 use Rattle.claims.specs.Histories.{HistoryClaims}
 use Rattle.claims.specs.Looks.{LookClaims}
+use Rattle.claims.specs.EvenUse.{EvenUseClaims}
 use Rattle.claims.specs.OnePass.{OnePassClaims}
 use Rattle.claims.specs.Times.{SupplyClaims, TimeClaims}
 use Rattle.claims.specs.Reload.{ReloadClaims}
@@ -22,6 +23,8 @@ pub record Claims : Type 0 where
   pub histories : HistoryClaims
   -- The rule is not vacuous: histories of which its sides are true, and others of which they are false.
   pub looks : LookClaims
+  -- Which free frame is chosen, and that a domain so uses its colours evenly: document 02, No. 7.
+  pub even-use : EvenUseClaims
   -- A fault goes over the table once: document 02, No. 2.
   pub one-pass : OnePassClaims
   -- The supply of a periodic resource, and what a planner relies on.

@@ -10,7 +10,8 @@ use Rattle.lists.specs.Range.{any}
 use Rattle.colours.specs.Cache.{colourOf, pageOf, cacheSet}
 use Rattle.colours.specs.Sets.{has}
 use Rattle.board.specs.Tests.{grant}
-use Rattle.calls.specs.Table.{State, word, wordOf, isOf, inSet, choices}
+use Rattle.calls.specs.Table.{State, word, wordOf, isOf, inSet}
+use Rattle.calls.specs.Choices.{choices}
 use Rattle.isolation.specs.DomainRule.{Call, run, Accepted, Empty}
 
 pub record HistoryClaims : Type 0 where
@@ -35,9 +36,10 @@ pub record HistoryClaims : Type 0 where
       → pageOf x < start .board .frames → pageOf y < start .board .frames
       → isOf d (word (run start h .table) (pageOf x)) ≡ true → isOf e (word (run start h .table) (pageOf y)) ≡ true
       → cacheSet (start .board .colours) x ≡ cacheSet (start .board .colours) y → d ≡ e
-  -- Of any board and table: a frame chosen for a set is free and has a colour of it, and the choice depends on the frames of the set alone.
+  -- Of any table and any board that has a colour: a frame chosen for a set is free and has a colour of it. And of any board and table: the choice depends
+  -- on the frames of the set alone. Which of them is chosen first is said in `EvenUse`.
   pub chosen-is-free :
-      (s : State) (d c f : ℕ) → any (eqb f) (choices s d c) ≡ true
+      (s : State) (d c f : ℕ) → 0 < s .board .colours → any (eqb f) (choices s d c) ≡ true
       → (f < s .board .frames) × (word (s .table) f ≡ 0) × (inSet (s .board .colours) c f ≡ true)
   pub choice-local :
       (s r : State) (d c : ℕ) → s .board .frames ≡ r .board .frames → s .board .colours ≡ r .board .colours

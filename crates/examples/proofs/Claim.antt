@@ -2,10 +2,11 @@
 use mathlib.Core.Bool.{true}
 use mathlib.Core.Path.{_≡_, refl}
 use lib.Count.{ones, onesIn}
-use Rattle.lists.specs.Range.{from, keep, lowestFrom}
+use Rattle.lists.specs.Range.{from, keep, lowestFrom, isFewest, fewest}
 use Rattle.refusal.specs.Reply.{each, unless}
 use Rattle.board.specs.Tests.{domainTests, boardTests, callTests}
-use Rattle.calls.specs.Table.{framesWith, mappedTo, isChoice, choices, strays}
+use Rattle.calls.specs.Table.{framesWith, mappedTo, frees, strays}
+use Rattle.calls.specs.Choices.{inColour, nextColour, nextFrame, taken, choices}
 use Rattle.calls.specs.Calls.{settle, called, look, fault, release, colours, pairUp, moveAll, recolour, triples}
 use Rattle.isolation.specs.DomainRule.{run}
 use Rattle.colours.specs.Sets.{isColourSet, has, coloursBelow, colourAt, placeOf}
@@ -26,9 +27,9 @@ use Rattle.examples.specs.Table.{examples}
 
 pub claim : allHold examples ≡ true
 unfolding
-    ones onesIn from keep each unless lowestFrom
+    ones onesIn from keep each unless lowestFrom isFewest fewest
     isColourSet has coloursBelow colourAt placeOf isColourCount cacheReply layoutPage layoutReply bleachIndex bleachReply dropBits equationOne
-    domainTests boardTests callTests framesWith mappedTo isChoice choices strays
+    domainTests boardTests callTests framesWith mappedTo frees strays inColour nextColour nextFrame taken choices
     settle called look fault release colours pairUp moveAll recolour triples run
     supply cost heldFrom reloadedSet reloaded charge partStart partEnd rowsFrom partOf rowTests planTests
     firstFrom firstTime arrivals need taskNeed timeInPart taskTime vcpuCharge vcpuNeed vcpuTime

@@ -5,8 +5,8 @@ use mathlib.Core.List.{List, [], _∷_, _++_}
 use Rattle.refusal.specs.Reply.{Answers, Refuses}
 use Rattle.board.specs.declared.Board.{Board}
 use Rattle.calls.specs.Table.{State}
-use Rattle.calls.specs.Calls.{New, Moved}
-use Rattle.isolation.specs.DomainRule.{Call, Fault, Recolour}
+use Rattle.calls.specs.Calls.{Move, New, Moved}
+use Rattle.isolation.specs.DomainRule.{Call, Fault, Release, Recolour}
 use Rattle.times.specs.First.{At}
 use Rattle.examples.specs.Example.{Example, Cache, Layout, Bleach, Drop, Equation, Reply-after, Moves-of, Table-after, Supply, Vcpu-time, Task-time, Vcpu-rounds, Task-rounds, Reloads, Pairwise-time, Admission}
 
@@ -26,6 +26,42 @@ three-faults = Fault 0 9 ∷ Fault 1 0 ∷ Fault 0 1 ∷ []
 
 abbrev pub then-recoloured : List Call
 then-recoloured = Fault 0 9 ∷ Fault 1 0 ∷ Fault 0 1 ∷ Recolour 0 0x1 (0 ∷ 0 ∷ 0 ∷ []) ∷ []
+
+-- N 4, F 12 and one domain with grant 0xF: its active set, and the table
+abbrev pub alone : ℕ → List ℕ → State
+alone set t =
+    record {
+      board =
+          record {
+            colours = 4;
+            frames = 12;
+            domains = 1;
+            grants = 0xF ∷ 0 ∷ 0 ∷ 0 ∷ 0 ∷ 0 ∷ 0 ∷ 0 ∷ [];
+            active = set ∷ 0 ∷ 0 ∷ 0 ∷ 0 ∷ 0 ∷ 0 ∷ 0 ∷ [];
+          };
+      table = t;
+    }
+
+-- three of the four colours are active, and nothing is held
+abbrev pub three-colours : State
+three-colours = alone 0x7 (0 ∷ 0 ∷ 0 ∷ 0 ∷ 0 ∷ 0 ∷ 0 ∷ 0 ∷ 0 ∷ 0 ∷ 0 ∷ 0 ∷ [])
+
+abbrev pub six-faults : List Call
+six-faults = Fault 0 0 ∷ Fault 0 1 ∷ Fault 0 2 ∷ Fault 0 3 ∷ Fault 0 4 ∷ Fault 0 5 ∷ []
+
+-- frames 0, 1 and 5 become free
+abbrev pub then-released : List Call
+then-released = six-faults ++ (Release 0 0 ∷ Release 0 1 ∷ Release 0 4 ∷ [])
+
+-- all four are active, frame 7 is reserved, and frames 0, 3 and 8 are to leave colours 0 and 3
+abbrev pub uneven : State
+uneven = alone 0xF (8 ∷ 1 ∷ 0 ∷ 6 ∷ 0 ∷ 2 ∷ 0 ∷ 65535 ∷ 7 ∷ 0 ∷ 3 ∷ 0 ∷ [])
+
+abbrev pub to-the-middle : Call
+to-the-middle = Recolour 0 0x6 (0 ∷ 0 ∷ 0 ∷ 0 ∷ 0 ∷ 0 ∷ 0 ∷ 0 ∷ 0 ∷ [])
+
+abbrev pub moved : ℕ → ℕ → ℕ → Move
+moved p f g = record { page = p; source = f; target = g }
 
 abbrev pub grant : List ℕ
 grant = 0xFF ∷ 0 ∷ 0 ∷ 0 ∷ 0 ∷ 0 ∷ 0 ∷ 0 ∷ []
@@ -93,6 +129,18 @@ examples =
     ∷ Reloads nested-tasks 2 1 0
     ∷ Task-time 100 whole-core nested-tasks 2 (At 3100)
     ∷ Pairwise-time 10000 10000 100 nested-tasks 2 (At 3000)
+    -- document 02, No. 7: six pages get frames 0, 1, 2, 4, 5 and 6, two of each active colour. Once the first of colour 0 and both of colour 1 are free
+    -- again, three pages get frames 1, 0 and 5: the domain holds none of colour 1, then one each of colours 0 and 1, of which the lower comes first. The
+    -- lowest free frames would be 0, 1 and 5
+    ∷ Table-after three-colours six-faults (1 ∷ 2 ∷ 3 ∷ 0 ∷ 4 ∷ 5 ∷ 6 ∷ 0 ∷ 0 ∷ 0 ∷ 0 ∷ 0 ∷ [])
+    ∷ Reply-after three-colours then-released (Fault 0 6) (Answers (New 1))
+    ∷ Reply-after three-colours (then-released ++ (Fault 0 6 ∷ [])) (Fault 0 7) (Answers (New 0))
+    ∷ Reply-after three-colours (then-released ++ (Fault 0 6 ∷ Fault 0 7 ∷ [])) (Fault 0 8) (Answers (New 5))
+    -- a recolouring counts the frames that it has moved: the domain holds 2 and 1 of colours 1 and 2, then 2 and 2, then 3 and 2. The lowest free frames
+    -- would be 2, 6 and 9
+    ∷ Reply-after uneven [] to-the-middle (Answers (Moved 3))
+    ∷ Moves-of uneven [] to-the-middle (moved 7 0 2 ∷ moved 5 3 9 ∷ moved 6 8 6 ∷ [])
+    ∷ Table-after uneven (to-the-middle ∷ []) (0 ∷ 1 ∷ 8 ∷ 0 ∷ 0 ∷ 2 ∷ 7 ∷ 65535 ∷ 0 ∷ 6 ∷ 3 ∷ 0 ∷ [])
     -- document 02, No. 9, in document 01's examples by the millisecond: the round that ends the search counts, at the time or past the deadline, and with
     -- cost 1 under full supply it is the only one
     ∷ Vcpu-rounds (vcpu 10 10) 0 2 2

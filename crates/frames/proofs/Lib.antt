@@ -1,8 +1,15 @@
 -- The laws of `frames`.
 pub mod Masks
 pub mod Blocks
+pub mod Strides
+pub mod LaneLoops
+pub mod Filled
+pub mod Keys
+pub mod ByLanes
 pub mod Called
 pub mod Pages
 pub mod Step
 pub mod Going
+pub mod Turn
+pub mod Passes
 pub mod Recolours

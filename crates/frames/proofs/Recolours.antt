@@ -14,8 +14,10 @@ use Rattle.refusal.proofs.Order.{refuses-alike, unless-passed, passed-earlier, 
 use Rattle.board.specs.declared.Board.{Board}
 use Rattle.board.specs.Tests.{grant, emptyOrOutside, callTests, callReply}
 use Rattle.board.proofs.Passed.{Accepted, accepted}
-use Rattle.calls.specs.Table.{State, stateOf, isFree, isStray, framesWith, isChoice, choices, strays}
+use Rattle.calls.specs.Table.{State, stateOf, isFree, isHeld, isStray, framesWith, frees, strays}
+use Rattle.calls.specs.Choices.{taken, choices}
 use Rattle.calls.specs.Calls.{Answer, Outcome, Moved, settle, called, pairUp, moveAll, withActive, recolourTests, recolour, triples, Listed}
+use Rattle.calls.proofs.Choice.{taken-count}
 use Rattle.frames.specs.Steps.{recolourReply, movesOn, Movable}
 use Rattle.frames.proofs.Called.{refused}
 use Rattle.frames.proofs.Going.{moves-count}
@@ -34,24 +36,31 @@ module _ (b : Board) (t : List ℕ) (d c : ℕ) where
   unfolding strays framesWith
   strays-is e = rw e
 
-  choices-is : length t ≡ b .frames → choices s d c ≡ free
-  unfolding choices isChoice framesWith
+  abbrev targets : List ℕ
+  targets = taken (length free) (b .colours) (length t) (isFree t (b .colours) c) (isHeld t d)
+
+  choices-is : length t ≡ b .frames → choices s d c ≡ targets
+  unfolding choices frees framesWith
   choices-is e = rw e
+
+  -- as many as there are free frames
+  target-count : length targets ≡ length free
+  target-count = taken-count (length free) (b .colours) (length t) (isFree t (b .colours) c) (isHeld t d)
 
   -- the reply, where 2 to 8 pass, by the frames to move and those that they can go to
   module _ (room : ℕ) (ok : callReply b (length t) d ≡ Answers tt) where
-    abbrev replied : List ℕ → List ℕ → Reply Answer
+    abbrev replied : List ℕ → ℕ → Reply Answer
     replied vs gs =
         unless
-        (test 9 (emptyOrOutside (grant b d) c) ∷ test 12 (ltb (length gs) (length vs)) ∷ test 13 (ltb room (3 * length vs)) ∷ [])
+        (test 9 (emptyOrOutside (grant b d) c) ∷ test 12 (ltb gs (length vs)) ∷ test 13 (ltb room (3 * length vs)) ∷ [])
         (Moved (length vs))
 
-    reply-is : recolourReply s d c room ≡ replied held free
+    reply-is : recolourReply s d c room ≡ replied held (length free)
     unfolding recolourReply callReply
     reply-is =
         let long = accepted b (length t) d ok .bounds .long in
         unless-passed (tt {0}) _ (callTests b (length t) d) (recolourTests s d c room) ok
-        ∙ ap₂ replied (strays-is long) (choices-is long)
+        ∙ ap₂ replied (strays-is long) (ap length (choices-is long) ∙ target-count)
 
     pub reply-nine : emptyOrOutside (grant b d) c ≡ true → recolourReply s d c room ≡ Refuses 9 0
     unfolding unless
@@ -114,7 +123,7 @@ module _ (b : Board) (t : List ℕ) (d c : ℕ) where
             frames = omega (arith, a .bounds);
             domain = omega (arith, a .bounds, a .caller);
             counted = sym moved ∙ ap length (strays-is (a .bounds .long));
-            room = omega (arith, ltb-false (length (choices s d c)) (length (strays s d c)) (twelve .0), moved, ap length (choices-is (a .bounds .long)));
+            room = omega (arith, ltb-false (length (choices s d c)) (length (strays s d c)) (twelve .0), moved, ap length (choices-is (a .bounds .long)), target-count);
             lent = omega (arith, ltb-false (length m) (3 * length (strays s d c)) (thirteen .0), moved);
           }
 
@@ -126,7 +135,7 @@ module _ (b : Board) (t : List ℕ) (d c : ℕ) where
             next = record { board = withActive b d c; table = moveAll t (pairUp d t vs gs) };
           }
 
-      recolour-is : recolour s d c m ≡ done count held free
+      recolour-is : recolour s d c m ≡ done count held targets
       unfolding recolour called settle recolourReply
       recolour-is =
           let long = call-accepted .bounds .long in

@@ -1,6 +1,7 @@
 // The five calls on the frame table: document 01, "Board and frame table" and refusals 2 to 14. What
 // they mean is said in `calls`; this crate runs them on a lent table and a board by value. No
 // function here requires anything of its caller.
+mod choosing;
 mod mapping;
 mod moving;
 mod recolouring;

@@ -1,13 +1,13 @@
 // Look, fault and release: document 01, the frame of a domain's page, with refusals 2 to 8, 10, 12
-// and 14. First fit: of the frames that would do, the lowest.
+// and 14; of a fault also document 02, Nos. 2 and 7.
 ghost use mathlib.Core.Path.{_≡_};
 ghost use Rattle.board.specs.Paper.{paperChecked};
 ghost use Rattle.calls.specs.Table.{stateOf};
 ghost use Rattle.calls.specs.Calls.{look as lookCall, fault as faultCall, release as releaseCall};
 ghost use Rattle.frames.specs.Paper.{paperLooked, paperFaulted, paperReleased};
 ghost use Rattle.frames.specs.Steps.{pageReply};
+use crate::choosing::choose;
 use crate::scan::next_word;
-use crate::scan::shut_lanes;
 use crate::scan::word_for;
 use board::Board;
 use board::Checked;
@@ -68,8 +68,8 @@ pub fn look(board: Board, table: &[u16], domain: u32, page: u32) -> Looked
     }
 }
 
-// The frame of the page, old or new: the one pass over the table, and the word to the frame that it found
-// free where the page has none.
+// The frame of the page, old or new: the one pass over the table, and where the page has no frame the word to
+// the one that the domain takes next.
 pub fn fault(board: Board, table: &mut [u16], domain: u32, page: u32) -> Faulted
     ensures { λ r. ⌜ paperFaulted r ≡ (faultCall (stateOf board (now (table .entry))) domain page) .reply ⌝ }
     ensures { λ r. ⌜ now (table .exit) ≡ (faultCall (stateOf board (now (table .entry))) domain page) .next .table ⌝ }
@@ -78,13 +78,21 @@ pub fn fault(board: Board, table: &mut [u16], domain: u32, page: u32) -> Faulted
         return Faulted::Refused(refusal);
     }
     let word = word_for(domain, page);
-    let shut = shut_lanes(board.colours as usize, active_set(board, domain));
-    let kept = go_over(table, word, shut);
+    let first = word_for(domain, 0);
+    let kept = go_over(table, word, first);
     if 0 < kept.mapped {
         return Faulted::Old((kept.mapped - 1) as u32);
     }
-    if 0 < kept.free {
-        let frame = kept.free - 1;
+    let held = kept.held;
+    let free = kept.free;
+    let frame = choose(
+        held,
+        free,
+        board.colours as usize,
+        active_set(board, domain),
+        table.len(),
+    );
+    if frame < table.len() {
         table[frame] = word;
         return Faulted::New(frame as u32);
     }

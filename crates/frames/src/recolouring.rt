@@ -7,13 +7,14 @@ ghost use Rattle.calls.specs.Calls.{colours as coloursCall, recolour as recolou
 ghost use Rattle.frames.specs.Paper.{paperActive, paperMoved};
 ghost use Rattle.frames.specs.Steps.{recolourReply};
 use crate::moving::move_all;
-use crate::scan::count_free;
-use crate::scan::count_strays;
+use crate::scan::sum_side;
+use crate::scan::word_for;
 use board::Board;
 use board::Checked;
 use board::active_set;
 use board::check_call;
 use board::grant_of;
+use pass::survey;
 use refusal::Refusal;
 
 pub enum ActiveColours {
@@ -62,8 +63,11 @@ fn judge(board: Board, table: &[u16], domain: u32, set: u32, room: usize) -> Mov
         return Moved::Refused(Refusal { number: 9, row: 0 });
     }
     let colours = board.colours as usize;
-    let count = count_strays(table, domain, colours, set);
-    if count_free(table, colours, set) < count {
+    let lanes = survey(table, word_for(domain, 0));
+    let held = lanes.held;
+    let free = lanes.count;
+    let count = sum_side(held, colours, set, false);
+    if sum_side(free, colours, set, true) < count {
         return Moved::Refused(Refusal { number: 12, row: 0 });
     }
     if room < 3 * count {

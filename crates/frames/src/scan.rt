@@ -1,14 +1,15 @@
-// Loops over the frame table, in ascending order: the next frame with a word, the next free frame or
-// stray from a frame on, and how many there are. Each gives the table's length where there is none.
+// Loops over the frame table, in ascending order: the next frame with a word, the next free frame of a colour and
+// the next stray from a frame on, each the table's length where there is none; and sums over lanes.
 ghost use mathlib.Core.Path.{_≡_};
 ghost use mathlib.Core.Bool.{true, not, _&&_};
-ghost use Prim.Native.Nat.{ℕ, _+_, _≤_, _<_};
-ghost use lib.Dec.{eqb};
+ghost use Prim.Native.Nat.{ℕ, _+_, _%_, _≤_, _<_};
 ghost use lib.ListN.{length};
-ghost use Rattle.lists.specs.Range.{keep, upto, any, lowestFrom};
+ghost use Rattle.lists.specs.Range.{upto, any, lowestFrom};
 ghost use Rattle.colours.specs.Cache.{isColourCount};
-ghost use Rattle.calls.specs.Table.{wordOf, isOf, inSet, hasWord, isFree, isStray};
-ghost use Rattle.calls.specs.OnePass.{lanesOf};
+ghost use Rattle.calls.specs.Table.{wordOf, isOf, inSet, hasWord, isStray};
+ghost use Rattle.calls.specs.Choices.{ofColour};
+ghost use Rattle.kept.specs.Lanes.{sumLanes};
+ghost use Rattle.frames.specs.Steps.{sideOf};
 
 // The word of a frame that a domain holds for a page.
 pub(crate) fn word_for(domain: u32, page: u32) -> u16
@@ -20,33 +21,11 @@ pub(crate) fn word_for(domain: u32, page: u32) -> u16
 
 // Whether the colour of a frame is in a set. The number of colours is a power of two, so that a mask
 // gives the remainder.
-fn in_set(colours: usize, set: u32, frame: usize) -> bool
+pub(crate) fn in_set(colours: usize, set: u32, frame: usize) -> bool
     requires { ⌜ isColourCount colours ≡ true ⌝ }
     ensures { λ r. ⌜ r ≡ inSet colours set frame ⌝ }
 {
     (set >> ((frame & (colours - 1)) as u32)) % 2 == 1
-}
-
-// By lane, that is by a frame's number modulo sixteen, 0 where its colour is in a set, else 1.
-pub(crate) fn shut_lanes(colours: usize, set: u32) -> [u16; 16]
-    requires { ⌜ isColourCount colours ≡ true ⌝ }
-    ensures { λ r. ⌜ r ≡ lanesOf colours set ⌝ }
-{
-    let mut shut = [0u16; 16];
-    let mut lane: usize = 0;
-    while lane < 16 {
-        shut[lane] = if in_set(colours, set, lane) { 0 } else { 1 };
-        lane += 1;
-    }
-    shut
-}
-
-// Whether a frame with this word is free and has a colour in a set.
-fn is_free_in(word: u16, colours: usize, set: u32, frame: usize) -> bool
-    requires { ⌜ isColourCount colours ≡ true ⌝ }
-    ensures { λ r. ⌜ r ≡ (eqb word 0 && inSet colours set frame) ⌝ }
-{
-    word == 0 && in_set(colours, set, frame)
 }
 
 // Whether a domain holds a frame with this word, outside a set.
@@ -103,19 +82,19 @@ pub(crate) fn next_word(table: &[u16], start: usize, word: u16) -> usize
     f
 }
 
-// The lowest free frame from one on with a colour in a set.
-pub(crate) fn next_free(table: &[u16], start: usize, colours: usize, set: u32) -> usize
-    requires { ⌜ (isColourCount colours ≡ true) × (start ≤ length (now table)) ⌝ }
-    ensures { λ r. ⌜ r ≡ lowestFrom (isFree (now (table .entry)) colours set) start (length (now (table .entry))) ⌝ }
+// The lowest free frame from one on with its colour.
+pub(crate) fn next_free(table: &[u16], start: usize, colours: usize) -> usize
+    requires { ⌜ (isColourCount colours ≡ true) × (start ≤ 8192) ⌝ }
+    ensures { λ r. ⌜ r ≡ lowestFrom (ofColour colours (hasWord (now (table .entry)) 0) (start % colours)) start (length (now (table .entry))) ⌝ }
 {
     let mut f = start;
     while f < table.len() {
-        if is_free_in(table[f], colours, set, f) {
+        if table[f] == 0 {
             return f;
         }
-        f += 1;
+        f += colours;
     }
-    f
+    table.len()
 }
 
 // The lowest frame from one on that a domain holds outside a set.
@@ -139,34 +118,30 @@ pub(crate) fn next_stray(
     f
 }
 
-// How many free frames have a colour in a set.
-pub(crate) fn count_free(table: &[u16], colours: usize, set: u32) -> usize
+// Whether the colour of a lane is on a side of a set, in it or not.
+fn on_side(colours: usize, set: u32, lane: usize, inside: bool) -> bool
     requires { ⌜ isColourCount colours ≡ true ⌝ }
-    ensures { λ r. ⌜ r ≡ length (keep (isFree (now (table .entry)) colours set) (upto (length (now (table .entry))))) ⌝ }
+    ensures { λ r. ⌜ r ≡ sideOf inside (inSet colours set lane) ⌝ }
 {
-    let mut n: usize = 0;
-    let mut f: usize = 0;
-    while f < table.len() {
-        if is_free_in(table[f], colours, set, f) {
-            n += 1;
-        }
-        f += 1;
+    if inside {
+        in_set(colours, set, lane)
+    } else {
+        !in_set(colours, set, lane)
     }
-    n
 }
 
-// How many frames a domain holds outside a set.
-pub(crate) fn count_strays(table: &[u16], domain: u32, colours: usize, set: u32) -> usize
-    requires { ⌜ (isColourCount colours ≡ true) × (domain < 8) ⌝ }
-    ensures { λ r. ⌜ r ≡ length (keep (isStray (now (table .entry)) colours domain set) (upto (length (now (table .entry))))) ⌝ }
+// How many words are counted in the lanes on a side of a set.
+pub(crate) fn sum_side(lanes: [u16; 16], colours: usize, set: u32, inside: bool) -> usize
+    requires { ⌜ isColourCount colours ≡ true ⌝ }
+    ensures { λ r. ⌜ r ≡ sumLanes (λ i. sideOf inside (inSet colours set i)) lanes ⌝ }
 {
-    let mut n: usize = 0;
-    let mut f: usize = 0;
-    while f < table.len() {
-        if is_stray(table[f], domain, colours, set, f) {
-            n += 1;
+    let mut sum: usize = 0;
+    let mut lane: usize = 0;
+    while lane < 16 {
+        if on_side(colours, set, lane, inside) {
+            sum += lanes[lane] as usize;
         }
-        f += 1;
+        lane += 1;
     }
-    n
+    sum
 }

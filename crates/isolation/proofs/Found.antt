@@ -11,10 +11,11 @@ use Rattle.lists.proofs.Split.{cases, and-both}
 use Rattle.lists.proofs.Members.{Each}
 use Rattle.lists.proofs.Filter.{each-map, kept, kept-none, same-kept}
 use Rattle.board.specs.declared.Board.{Board}
-use Rattle.calls.specs.Table.{word, wordOf, isOf, hasWord, isStray, framesWith, mappedTo, choices, strays}
+use Rattle.calls.specs.Table.{word, wordOf, isOf, hasWord, isStray, framesWith, mappedTo, strays}
+use Rattle.calls.specs.Choices.{choices}
 use Rattle.calls.proofs.Choice.{Chosen, chosen, choice-local}
 use Rattle.isolation.proofs.AcceptedBoard.{Live, at, Inside}
-use Rattle.isolation.proofs.Invariant.{PageWord, granted, Lawful, free, reserved, held, Inv, Mine, not-reserved}
+use Rattle.isolation.proofs.Invariant.{PageWord, granted, Lawful, free, reserved, held, Inv, Mine, known, not-reserved}
 use Rattle.isolation.proofs.Agree.{SameWords}
 
 -- a word that is one of e's, by its page
@@ -59,7 +60,7 @@ module _ {b : Board} {t₀ : List ℕ} {x : Live} (inv : Inv b t₀ x) {e : ℕ}
   pub choices-mine : (c : ℕ) → Inside b e c → Each (Mine b t₀ e) (choices (at b x) e c)
   choices-mine c inside =
       each-map (Chosen (at b x) c) (Mine b t₀ e) (λ f k. free-frame f (k .below) (k .free) (inside (f % b .colours) (k .inside)))
-      (choices (at b x) e c) (chosen (at b x) e c)
+      (choices (at b x) e c) (chosen (at b x) e c (known inv .coloured))
 
   module _ (test : List ℕ → ℕ → Bool) (own : OwnTest e test) where
     found-mine : Each (Mine b t₀ e) (framesWith (at b x) (test (x .table)))

@@ -12,7 +12,8 @@ use Rattle.refusal.specs.Reply.{Test, passes}
 use Rattle.refusal.proofs.Replies.{passed-first}
 use Rattle.board.specs.declared.Board.{Board}
 use Rattle.board.specs.Tests.{grant, emptyOrOutside}
-use Rattle.calls.specs.Table.{State, word, wordOf, mappedTo, choices, strays}
+use Rattle.calls.specs.Table.{State, word, wordOf, mappedTo, strays}
+use Rattle.calls.specs.Choices.{choices}
 use Rattle.calls.specs.Calls.{Move, Done, called, written, pageTest, look, faultDone, fault, release, colours, pairUp, move, moveAll, recolour}
 use Rattle.isolation.specs.DomainRule.{Call, Look, Fault, Release, Colours, Recolour, names, outcome}
 use Rattle.isolation.proofs.AcceptedBoard.{Live, at, withTable, withSet, setOf, set-inside}

@@ -1,4 +1,4 @@
--- The argument for the domain rule.
+-- The arguments for the domain rule and for even use of colours.
 pub mod Unwinding
 pub mod AcceptedBoard
 pub mod TestLists
@@ -10,3 +10,4 @@ pub mod Sees
 pub mod Reveals
 pub mod Rule
 pub mod Theorems
+pub mod EvenUse

@@ -27,7 +27,7 @@ abbrev names-it : ℕ → Call → Bool
 names-it d c = eqb (names c) d
 
 -- a word of an empty table, whichever of its two is named first
-empty-word : (s : State) → Empty s → (f : ℕ) → f < s .board .frames → (word (s .table) f ≡ 0) ⊎ (word (s .table) f ≡ 65535)
+pub empty-word : (s : State) → Empty s → (f : ℕ) → f < s .board .frames → (word (s .table) f ≡ 0) ⊎ (word (s .table) f ≡ 65535)
 empty-word s empty f h = ⊎-elim (λ e. search (inl, inr)) (λ e. search (inl, inr)) (empty f h)
 
 -- the start has the invariant

@@ -11,7 +11,8 @@ use Rattle.refusal.specs.Reply.{Reply, Answers, Test, test, unless, passes}
 use Rattle.refusal.proofs.Replies.{passed-first}
 use Rattle.board.specs.declared.Board.{Board}
 use Rattle.board.specs.Tests.{grant, emptyOrOutside}
-use Rattle.calls.specs.Table.{State, word, wordOf, mappedTo, choices, strays}
+use Rattle.calls.specs.Table.{State, word, wordOf, mappedTo, strays}
+use Rattle.calls.specs.Choices.{choices}
 use Rattle.calls.specs.Calls.{Freed, Active, Move, Done, settle, called, written, pageTest, lookAnswer, faultDone, pairUp, move, moveAll}
 use Rattle.calls.specs.Calls.{look, fault, release, colours, recolour}
 use Rattle.isolation.specs.DomainRule.{Call, Look, Fault, Release, Colours, Recolour, names, outcome}

@@ -1,2 +1,3 @@
--- The statement of the domain rule.
+-- The statements over histories: the domain rule, and even use of colours.
 pub mod DomainRule
+pub mod EvenUse

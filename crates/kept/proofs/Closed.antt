@@ -1,25 +1,152 @@
--- What is kept after words that are taken in, said at once: the lowest of them that is the page's word settles it, and else the lowest that is
--- free in an open lane. The laws of takeIn go by its cases; everything else goes by these.
+-- What is kept after words that are taken in, said at once: the lowest of them that is the page's word settles it, and else the lanes have counted and
+-- noted all of them. And the laws of the lanes, which go on from one list of words to the next.
 use Prim.Native.Nat.{ℕ, zero, suc, _+_, _%_, _<_, _≤_}
-use native.Mathlib.Nat.{le-refl, lt-irrefl, mod-lt}
+use native.Mathlib.Nat.{le-refl, lt-irrefl, add-zero}
 use native.Mathlib.Numerals.{add-one}
 use native.Mathlib.Omega.{arith}
-use mathlib.Core.Bool.{Bool, true, false, _&&_, and-true, and-false, false≢true}
+use mathlib.Core.Bool.{Bool, true, false, _&&_, true≢false}
 use mathlib.Core.List.{List, [], _∷_, _++_}
 use mathlib.Core.Path.{_≡_, refl, sym, ap, _∙_}
-use lib.Dec.{eqb, ltb}
-use lib.ListN.{length, getD, drop, getD-replicate, drop-of-length-le}
-use lib.Seq.{drop-cons}
-use borrow.Author.Tests.{lt-ltb, le-ltb, eqb-true, eqb-false, eq-eqb, ne-eqb}
+use lib.Dec.{eqb}
+use lib.ListN.{length, getD, set, drop, length-set, drop-of-length-le, replicate}
+use lib.Seq.{drop-cons, set-out, getD-set-same, getD-set-other}
+use borrow.Author.Tests.{lt-ltb, eqb-true, eqb-false, eq-eqb, ne-eqb}
 use Rattle.lists.specs.Choice.{if_then_else_}
-use Rattle.lists.specs.Range.{any, lowest, lowestFrom}
+use Rattle.lists.specs.Range.{lowest, lowestFrom}
 use Rattle.lists.proofs.Split.{cases, below-or-not, and-both}
 use Rattle.lists.proofs.Sought.{sought-hit, sought-miss, sought-end}
-use Rattle.lists.proofs.Found.{sought-past}
 use Rattle.kept.specs.declared.Kept.{Kept}
-use Rattle.kept.specs.Kept.{isOpen, noLane, soFar, found, takeIn, takeAll}
+use Rattle.kept.specs.Kept.{isOwn, zeros, Within, countIn, noteIn, countAll, noteAll, soFar, found, takeIn, takeAll}
 
--- nothing more is taken in once the page's frame is known
+-- an entry of a list after one of them is written
+pub at-entry : (P : ℕ → Type 0) (l : List ℕ) (j v i : ℕ) → (i ≡ j → P v) → P (getD l i 0) → P (getD (set l j v) i 0)
+at-entry P l j v i here there =
+    cases (eqb i j)
+    (λ e.
+    let q = eqb-true i j e in
+    below-or-not j (length l)
+    (λ h. rw (q, getD-set-same l j v 0 h) (here q))
+    (λ h. rw (set-out l j v h) there))
+    (λ e. rw (getD-set-other l j i v 0 (eqb-false i j e)) there)
+
+-- The lanes. One more word of a list:
+module _ (p : ℕ → Bool) where
+  pub count-append : (lanes : List ℕ) (f : ℕ) (xs ys : List ℕ) → countAll p lanes f (xs ++ ys) ≡ countAll p (countAll p lanes f xs) (f + length xs) ys
+  unfolding countAll
+  count-append lanes f [] ys = rw (add-zero f) refl
+  count-append lanes f (x ∷ xs) ys =
+      let next : f + 1 + length xs ≡ f + suc (length xs) = omega arith in
+      count-append (countIn p lanes f x) (f + 1) xs ys ∙ ap (λ (g : ℕ). countAll p (countAll p (countIn p lanes f x) (f + 1) xs) g ys) next
+
+  pub count-next : (lanes : List ℕ) (f : ℕ) (xs : List ℕ) (i : ℕ) → i < length xs
+      → countAll p lanes (f + i) (drop i xs) ≡ countAll p (countIn p lanes (f + i) (getD xs i 0)) (f + (i + 1)) (drop (i + 1) xs)
+  unfolding countAll
+  count-next lanes f xs i l =
+      let next : f + i + 1 ≡ f + suc i = omega arith in
+      rw (drop-cons xs i 0 l, add-one i) (ap (λ (g : ℕ). countAll p (countIn p lanes (f + i) (getD xs i 0)) g (drop (suc i) xs)) next)
+
+  pub count-length : (lanes : List ℕ) (f : ℕ) (xs : List ℕ) → length (countAll p lanes f xs) ≡ length lanes
+  unfolding countAll countIn
+  count-length lanes f [] = refl
+  count-length lanes f (x ∷ xs) = count-length (countIn p lanes f x) (f + 1) xs ∙ length-set lanes (f % 16) _
+
+  -- a frame with the same lane counts alike
+  pub count-shift : (lanes : List ℕ) (f g : ℕ) (xs : List ℕ) → f % 16 ≡ g % 16 → countAll p lanes f xs ≡ countAll p lanes g xs
+  unfolding countAll countIn
+  count-shift lanes f g [] e = refl
+  count-shift lanes f g (x ∷ xs) e = rw e (count-shift (countIn p lanes g x) (f + 1) (g + 1) xs (omega arith))
+
+  one-within : (m : ℕ) (lanes : List ℕ) (f x : ℕ) → Within m lanes → Within (m + 1) (countIn p lanes f x)
+  unfolding countIn
+  one-within m lanes f x h i =
+      at-entry (λ (v : ℕ). v ≤ m + 1) lanes (f % 16) (getD lanes (f % 16) 0 + (if p x then 1 else 0)) i
+      (λ e. cases (p x) (λ q. rw q (omega (arith, h (f % 16)))) (λ q. rw q (omega (arith, h (f % 16)))))
+      (omega (arith, h i))
+
+  pub count-within : (m : ℕ) (lanes : List ℕ) (f : ℕ) (xs : List ℕ) → Within m lanes → Within (m + length xs) (countAll p lanes f xs)
+  unfolding countAll
+  count-within m lanes f [] h i = omega (arith, h i)
+  count-within m lanes f (x ∷ xs) h i = omega (arith, count-within (m + 1) (countIn p lanes f x) (f + 1) xs (one-within m lanes f x h) i)
+
+pub note-append : (free : List ℕ) (f : ℕ) (xs ys : List ℕ) → noteAll free f (xs ++ ys) ≡ noteAll (noteAll free f xs) (f + length xs) ys
+unfolding noteAll
+note-append free f [] ys = rw (add-zero f) refl
+note-append free f (x ∷ xs) ys =
+    let next : f + 1 + length xs ≡ f + suc (length xs) = omega arith in
+    note-append (noteIn free f x) (f + 1) xs ys ∙ ap (λ (g : ℕ). noteAll (noteAll (noteIn free f x) (f + 1) xs) g ys) next
+
+pub note-next : (free : List ℕ) (f : ℕ) (xs : List ℕ) (i : ℕ) → i < length xs
+    → noteAll free (f + i) (drop i xs) ≡ noteAll (noteIn free (f + i) (getD xs i 0)) (f + (i + 1)) (drop (i + 1) xs)
+unfolding noteAll
+note-next free f xs i l =
+    let next : f + i + 1 ≡ f + suc i = omega arith in
+    rw (drop-cons xs i 0 l, add-one i) (ap (λ (g : ℕ). noteAll (noteIn free (f + i) (getD xs i 0)) g (drop (suc i) xs)) next)
+
+-- nothing is noted of a frame that is held, or whose lane has one
+pub not-noted : (free : List ℕ) (f x : ℕ) → (eqb x 0 && eqb (getD free (f % 16) 0) 0) ≡ false → noteIn free f x ≡ free
+unfolding noteIn
+not-noted free f x e =
+    cases (eqb x 0)
+    (λ z. cases (eqb (getD free (f % 16) 0) 0) (λ o. absurd (true≢false (sym (rw (z, o)) ∙ e))) (λ o. simp (z, o)))
+    (λ z. simp z)
+
+pub noted : (free : List ℕ) (f x : ℕ) → (eqb x 0 && eqb (getD free (f % 16) 0) 0) ≡ true → noteIn free f x ≡ set free (f % 16) (f + 1)
+unfolding noteIn
+noted free f x e = let o = and-both (eqb x 0) (eqb (getD free (f % 16) 0) 0) e in simp (o .0, o .1)
+
+pub note-length : (free : List ℕ) (f : ℕ) (xs : List ℕ) → length (noteAll free f xs) ≡ length free
+unfolding noteAll
+note-length free f [] = refl
+note-length free f (x ∷ xs) = note-length (noteIn free f x) (f + 1) xs ∙ one
+  where
+    one : length (noteIn free f x) ≡ length free
+    one =
+        cases (eqb x 0 && eqb (getD free (f % 16) 0) 0)
+        (λ e. ap length (noted free f x e) ∙ length-set free (f % 16) (f + 1))
+        (λ e. ap length (not-noted free f x e))
+
+-- every frame noted is among those passed
+pub note-within : (free : List ℕ) (f : ℕ) (xs : List ℕ) → Within f free → Within (f + length xs) (noteAll free f xs)
+unfolding noteAll
+note-within free f [] h i = omega (arith, h i)
+note-within free f (x ∷ xs) h i = omega (arith, note-within (noteIn free f x) (f + 1) xs one i)
+  where
+    one : Within (f + 1) (noteIn free f x)
+    one j =
+        cases (eqb x 0 && eqb (getD free (f % 16) 0) 0)
+        (λ e. rw (noted free f x e) (at-entry (λ (v : ℕ). v ≤ f + 1) free (f % 16) (f + 1) j (λ q. le-refl (f + 1)) (omega (arith, h j))))
+        (λ e. rw (not-noted free f x e) (omega (arith, h j)))
+
+-- no frame of a block is noted
+pub note-quiet : (free : List ℕ) (f : ℕ) (xs : List ℕ) → ((i : ℕ) → i < length xs → (eqb (getD xs i 0) 0 && eqb (getD free ((f + i) % 16) 0) 0) ≡ false) → noteAll free f xs ≡ free
+unfolding noteAll
+note-quiet free f xs none = let same : f ≡ f + 0 = omega arith in ap (λ (g : ℕ). noteAll free g xs) same ∙ go (length xs) 0 (omega arith)
+  where
+    go : (r i : ℕ) → i + r ≡ length xs → noteAll free (f + i) (drop i xs) ≡ free
+    go zero i e = let all : length xs ≤ i = omega arith in rw (drop-of-length-le xs all)
+    go (suc r) i e =
+        note-next free f xs i (omega arith)
+        ∙ ap (λ (l : List ℕ). noteAll l (f + (i + 1)) (drop (i + 1) xs)) (not-noted free (f + i) (getD xs i 0) (none i (omega arith)))
+        ∙ go r (i + 1) (omega arith)
+
+-- nothing was counted or noted yet
+pub zeros-length : length zeros ≡ 16
+unfolding zeros
+zeros-length = refl
+
+pub no-entry : (i : ℕ) → getD zeros i 0 ≡ 0
+unfolding zeros
+no-entry i = go 16 i
+  where
+    go : (n i : ℕ) → getD {A = ℕ} (replicate {A = ℕ} n 0) i 0 ≡ 0
+    go zero i = refl
+    go (suc n) zero = refl
+    go (suc n) (suc i) = go n i
+
+pub zeros-within : (m : ℕ) → Within m zeros
+zeros-within m i = omega (arith, no-entry i)
+
+-- Nothing more is taken in once the page's frame is known
 pub known-stays : (k : Kept) (xs : List ℕ) → 0 < k .mapped → takeAll k xs ≡ k
 unfolding takeAll takeIn
 known-stays k [] h = refl
@@ -31,152 +158,106 @@ unfolding takeAll
 take-append k [] ys = refl
 take-append k (x ∷ xs) ys = take-append (takeIn k x) xs ys
 
-none-open : (f : ℕ) → isOpen noLane f ≡ false
-unfolding noLane
-none-open f = rw (getD-replicate {A = ℕ} 16 (f % 16) 1 0 (mod-lt f (omega arith)))
-
--- the words xs of the frames from a on, in a fault for word w
-module _ (w a : ℕ) (xs : List ℕ) where
-  abbrev pub n : ℕ
+-- the words xs of the frames from a on, in a fault for word w of a domain
+module _ (w first a : ℕ) (xs : List ℕ) where
+  abbrev n : ℕ
   n = length xs
 
   abbrev pub isWord : ℕ → Bool
   isWord i = eqb (getD xs i 0) w
 
-  abbrev pub isTaken : List ℕ → ℕ → Bool
-  isTaken shut i = eqb (getD xs i 0) 0 && isOpen shut (a + i)
-
-  -- what is kept in the end, by the lowest word that is the page's, and the lowest that is free in an open lane
-  abbrev pub settled : List ℕ → ℕ → ℕ → ℕ → Kept
-  settled shut free m g =
-      if ltb m n then found w (a + m + 1) else if ltb g n then soFar w noLane (a + n) (a + g + 1) else soFar w shut (a + n) free
-
-  -- the cases of taking in word i
-  module _ (i : ℕ) (shut : List ℕ) (free : ℕ) where
-    abbrev x : ℕ
-    x = getD xs i 0
-
-    abbrev here : Kept
-    here = soFar w shut (a + i) free
-
-    by-word : isWord i ≡ true → takeIn here x ≡ found w (a + i + 1)
+  -- the cases of taking in a word
+  module _ (held free : List ℕ) (f x : ℕ) where
+    by-word : eqb x w ≡ true → takeIn (soFar w first held free f) x ≡ found w first (f + 1)
     unfolding takeIn
     by-word e = let same = eqb-true x w e in simp (eq-eqb x w same, eq-eqb w x (sym same))
 
-    module _ (e : isWord i ≡ false) where
-      other : eqb w x ≡ false
-      other = ne-eqb w x (λ same. eqb-false x w e (sym same))
-
-      by-free : eqb x 0 ≡ true → isOpen shut (a + i) ≡ true → takeIn here x ≡ soFar w noLane (a + i + 1) (a + i + 1)
-      unfolding takeIn
-      by-free f o = simp (e, other, f, o)
-
-      by-held : eqb x 0 ≡ false → takeIn here x ≡ soFar w shut (a + i + 1) free
-      unfolding takeIn
-      by-held f = simp (e, other, f, and-true, and-false)
-
-      by-shut : isOpen shut (a + i) ≡ false → takeIn here x ≡ soFar w shut (a + i + 1) free
-      unfolding takeIn
-      by-shut o = simp (e, other, o, and-true, and-false)
-
-      by-taken : isTaken shut i ≡ true → takeIn here x ≡ soFar w noLane (a + i + 1) (a + i + 1)
-      by-taken t = let r = and-both (eqb x 0) (isOpen shut (a + i)) t in by-free (r .0) (r .1)
-
-      by-other : isTaken shut i ≡ false → takeIn here x ≡ soFar w shut (a + i + 1) free
-      by-other t =
-          cases (eqb x 0)
-          (λ f. cases (isOpen shut (a + i)) (λ o. absurd (false≢true (sym t ∙ rw (f, o) refl))) by-shut)
-          by-held
+    by-other : eqb x w ≡ false → takeIn (soFar w first held free f) x ≡ soFar w first (countIn (isOwn first) held f x) (noteIn free f x) (f + 1)
+    unfolding takeIn
+    by-other e = simp (e, ne-eqb w x (λ same. eqb-false x w e (sym same)))
 
   one-more : (i : ℕ) (k : Kept) → i < n → takeAll k (drop i xs) ≡ takeAll (takeIn k (getD xs i 0)) (drop (i + 1) xs)
   unfolding takeAll
   one-more i k l = rw (drop-cons xs i 0 l, add-one i)
 
-  -- what is settled by which of the two has come
-  module _ (shut : List ℕ) (free m g : ℕ) where
-    pub settled-word : m < n → settled shut free m g ≡ found w (a + m + 1)
-    settled-word l = simp (lt-ltb m n l)
-
-    pub settled-free : n ≤ m → g < n → settled shut free m g ≡ soFar w noLane (a + n) (a + g + 1)
-    settled-free h l = simp (le-ltb m n h, lt-ltb g n l)
-
-    pub settled-none : n ≤ m → n ≤ g → settled shut free m g ≡ soFar w shut (a + n) free
-    settled-none h l = simp (le-ltb m n h, le-ltb g n l)
-
-  -- once a free frame is known, it is settled by the page's word alone
-  none-taken : (i : ℕ) → i ≤ n → lowestFrom (isTaken noLane) i n ≡ n
-  none-taken i l =
-      sought-past (isTaken noLane) i n n l (le-refl n) (λ m low high. simp (none-open (a + m), and-false))
-      ∙ sought-end (isTaken noLane) n n (le-refl n)
-
-  free-known : (shut : List ℕ) (free m g i : ℕ) → g < n → i ≤ n → settled noLane (a + g + 1) m (lowestFrom (isTaken noLane) i n) ≡ settled shut free m g
-  free-known shut free m g i l h =
-      below-or-not m n
-      (λ k. settled-word noLane (a + g + 1) m _ k ∙ sym (settled-word shut free m g k))
-      (λ k.
-      settled-none noLane (a + g + 1) m _ k (omega (arith, none-taken i h)) ∙ sym (settled-free shut free m g k l))
-
-  resumed : (r i : ℕ) (shut : List ℕ) (free : ℕ) → i + r ≡ n → takeAll (soFar w shut (a + i) free) (drop i xs) ≡ settled shut free (lowestFrom isWord i n) (lowestFrom (isTaken shut) i n)
-  unfolding takeAll
-  resumed zero i shut free e =
-      let all : n ≤ i = omega arith in
-      let same : i ≡ n = omega arith in
-      rw (drop-of-length-le xs all, sought-end isWord i n all, sought-end (isTaken shut) i n all, same)
-      (sym (settled-none shut free n n (le-refl n) (le-refl n)))
-  resumed (suc r) i shut free e =
+  -- the words from i on, with what is kept before them
+  come : (r i : ℕ) (held free : List ℕ) → i + r ≡ n → lowestFrom isWord i n < n → takeAll (soFar w first held free (a + i)) (drop i xs) ≡ found w first (a + lowestFrom isWord i n + 1)
+  come zero i held free e h = absurd (lt-irrefl n (omega (arith, sought-end isWord i n (omega arith))))
+  come (suc r) i held free e h =
       let l : i < n = omega arith in
       let next : a + i + 1 ≡ a + (i + 1) = omega arith in
-      one-more i (soFar w shut (a + i) free) l
+      one-more i (soFar w first held free (a + i)) l
       ∙ cases (isWord i)
       (λ q.
-      rw (by-word i shut free q, sought-hit isWord i n l q)
-      (known-stays (found w (a + i + 1)) (drop (i + 1) xs) (omega arith) ∙ sym (settled-word shut free i _ l)))
+      rw (by-word held free (a + i) (getD xs i 0) q, sought-hit isWord i n l q)
+      (known-stays (found w first (a + i + 1)) (drop (i + 1) xs) (omega arith)))
       (λ q.
-      cases (isTaken shut i)
-      (λ o.
-      rw (by-taken i shut free q o, sought-miss isWord i n l q, sought-hit (isTaken shut) i n l o, next)
-      (resumed r (i + 1) noLane (a + (i + 1)) (omega arith) ∙ rw (← next) (free-known shut free _ i (i + 1) l (omega arith))))
-      (λ o.
-      rw (by-other i shut free q o, sought-miss isWord i n l q, sought-miss (isTaken shut) i n l o, next)
-      (resumed r (i + 1) shut free (omega arith))))
+      rw (by-other held free (a + i) (getD xs i 0) q, sought-miss isWord i n l q, next)
+      (come r (i + 1) _ _ (omega arith) (rw (sought-miss isWord i n l q) at h)))
 
-  pub in-the-end : (shut : List ℕ) (free : ℕ) → takeAll (soFar w shut a free) xs ≡ settled shut free (lowest isWord n) (lowest (isTaken shut) n)
-  in-the-end shut free = let same : a ≡ a + 0 = omega arith in ap (λ (f : ℕ). takeAll (soFar w shut f free) xs) same ∙ resumed n 0 shut free (omega arith)
+  passed : (r i : ℕ) (held free : List ℕ) → i + r ≡ n → n ≤ lowestFrom isWord i n → takeAll (soFar w first held free (a + i)) (drop i xs) ≡ soFar w first (countAll (isOwn first) held (a + i) (drop i xs)) (noteAll free (a + i) (drop i xs)) (a + n)
+  unfolding takeAll countAll noteAll
+  passed zero i held free e h =
+      let all : n ≤ i = omega arith in
+      let same : a + i ≡ a + n = omega arith in
+      rw (drop-of-length-le xs all, same) refl
+  passed (suc r) i held free e h =
+      let l : i < n = omega arith in
+      let next : a + i + 1 ≡ a + (i + 1) = omega arith in
+      one-more i (soFar w first held free (a + i)) l
+      ∙ cases (isWord i)
+      (λ q. absurd (lt-irrefl i (omega (arith, sought-hit isWord i n l q))))
+      (λ q.
+      rw (by-other held free (a + i) (getD xs i 0) q, next, count-next (isOwn first) held a xs i l, note-next free a xs i l)
+      (passed r (i + 1) _ _ (omega arith) (rw (sought-miss isWord i n l q) at h)))
 
-  -- where the page's word has not come, all words were taken in
-  pub not-come : (shut : List ℕ) (free : ℕ) → takeAll (soFar w shut a free) xs .mapped ≡ 0 → takeAll (soFar w shut a free) xs ≡ soFar w (takeAll (soFar w shut a free) xs .shut) (a + n) (takeAll (soFar w shut a free) xs .free)
-  not-come shut free e =
-      let m : ℕ = lowest isWord n in
-      let g : ℕ = lowest (isTaken shut) n in
-      rw (in-the-end shut free)
-      (below-or-not m n
-      (λ l. absurd (never m (sym (ap (λ (k : Kept). k .mapped) (in-the-end shut free ∙ settled-word shut free m g l)) ∙ e)))
-      (λ h.
-      below-or-not g n
-      (λ l. rw (le-ltb m n h, lt-ltb g n l) refl)
-      (λ l. rw (le-ltb m n h, le-ltb g n l) refl)))
-    where
-      never : (i : ℕ) → a + i + 1 ≡ 0 → ⊥
-      never i z = lt-irrefl 0 (omega arith)
+  -- the page's word has come, at the lowest of them that is it
+  pub has-come : (held free : List ℕ) → lowest isWord n < n → takeAll (soFar w first held free a) xs ≡ found w first (a + lowest isWord n + 1)
+  has-come held free h = let same : a ≡ a + 0 = omega arith in ap (λ (f : ℕ). takeAll (soFar w first held free f) xs) same ∙ come n 0 held free (omega arith) h
 
-  -- the frames known are among those passed, the word sought stays, and there are sixteen lanes, each 0 or 1
+  -- or it has not
+  pub not-come : (held free : List ℕ) → n ≤ lowest isWord n → takeAll (soFar w first held free a) xs ≡ soFar w first (countAll (isOwn first) held a xs) (noteAll free a xs) (a + n)
+  not-come held free h =
+      let same : a ≡ a + 0 = omega arith in
+      ap (λ (f : ℕ). takeAll (soFar w first held free f) xs) same
+      ∙ passed n 0 held free (omega arith) h
+      ∙ ap (λ (f : ℕ). soFar w first (countAll (isOwn first) held f xs) (noteAll free f xs) (a + n)) (sym same)
+
+  -- the frames known are among those passed, the words sought stay, and there are sixteen lanes of each kind, none above the frames passed
   pub record Sound (k : Kept) : Type 0 where
     pub same-word : k .word ≡ w
+    pub same-first : k .first ≡ first
     pub taken-below : k .taken ≤ a + n
     pub mapped-below : k .mapped ≤ a + n
-    pub free-below : k .free ≤ a + n
-    pub lanes : length (k .shut) ≡ 16
-    pub flags : any (ltb 1) (k .shut) ≡ false
+    pub held-lanes : length (k .held) ≡ 16
+    pub free-lanes : length (k .free) ≡ 16
+    pub held-below : Within (a + n) (k .held)
+    pub free-below : Within (a + n) (k .free)
 
-  pub sound : (shut : List ℕ) → length shut ≡ 16 → any (ltb 1) shut ≡ false → Sound (takeAll (soFar w shut a 0) xs)
-  unfolding noLane
-  sound shut sixteen flags =
-      let m : ℕ = lowest isWord n in
-      let g : ℕ = lowest (isTaken shut) n in
-      rw (in-the-end shut 0)
-      (below-or-not m n
-      (λ l. rw (lt-ltb m n l) (record { same-word = refl; taken-below = omega arith; mapped-below = omega arith; free-below = omega arith; lanes = refl; flags = refl }))
+  pub sound : (held free : List ℕ) → length held ≡ 16 → length free ≡ 16 → Within a held → Within a free → Sound (takeAll (soFar w first held free a) xs)
+  sound held free hl fl hw fw =
+      below-or-not (lowest isWord n) n
       (λ h.
-      below-or-not g n
-      (λ l. rw (le-ltb m n h, lt-ltb g n l) (record { same-word = refl; taken-below = omega arith; mapped-below = omega arith; free-below = omega arith; lanes = refl; flags = refl }))
-      (λ l. rw (le-ltb m n h, le-ltb g n l) (record { same-word = refl; taken-below = omega arith; mapped-below = omega arith; free-below = omega arith; lanes = sixteen; flags = flags }))))
+      rw (has-come held free h)
+      (record {
+        same-word = refl;
+        same-first = refl;
+        taken-below = omega arith;
+        mapped-below = omega arith;
+        held-lanes = zeros-length;
+        free-lanes = zeros-length;
+        held-below = zeros-within (a + n);
+        free-below = zeros-within (a + n);
+      }))
+      (λ h.
+      rw (not-come held free h)
+      (record {
+        same-word = refl;
+        same-first = refl;
+        taken-below = le-refl (a + n);
+        mapped-below = omega arith;
+        held-lanes = count-length (isOwn first) held a xs ∙ hl;
+        free-lanes = note-length free a xs ∙ fl;
+        held-below = count-within (isOwn first) a held a xs hw;
+        free-below = note-within free a xs fw;
+      }))

@@ -1,2 +1,3 @@
 -- The laws of `kept`.
 pub mod Closed
+pub mod Lanes

@@ -1,2 +1,3 @@
 -- The definitions of `kept`.
 pub mod Kept
+pub mod Lanes

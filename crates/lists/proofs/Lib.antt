@@ -7,3 +7,5 @@ pub mod Same
 pub mod Members
 pub mod Filter
 pub mod Written
+pub mod Fewest
+pub mod Totals

@@ -1,11 +1,11 @@
--- A number that equals some member of a list has whatever each member has.
+-- A number that equals some member of a list has whatever each member has, and so has the first of a list that is not empty.
 use Prim.Native.Nat.{ℕ}
-use mathlib.Core.Bool.{true, false≢true}
+use mathlib.Core.Bool.{true, false, true≢false, false≢true}
 use mathlib.Core.List.{List, [], _∷_}
 use mathlib.Core.Path.{_≡_}
 use lib.Dec.{eqb}
 use borrow.Author.Tests.{eqb-true}
-use Rattle.lists.specs.Range.{any}
+use Rattle.lists.specs.Range.{any, isEmpty, headOr}
 use Rattle.lists.proofs.Split.{cases}
 
 abbrev pub Each : (ℕ → Type 0) → List ℕ → Type 0
@@ -16,3 +16,7 @@ pub member-has : (P : ℕ → Type 0) (n : ℕ) (xs : List ℕ) → Each P xs �
 member-has P n [] h e = absurd (false≢true e)
 member-has P n (x ∷ xs) h e =
     cases (eqb n x) (λ q. rw (eqb-true n x q) (h .0)) (λ q. member-has P n xs (h .1) (rw q at e))
+
+pub head-has : (P : ℕ → Type 0) (xs : List ℕ) → Each P xs → isEmpty xs ≡ false → P (headOr 0 xs)
+head-has P [] h some = absurd (true≢false some)
+head-has P (x ∷ xs) h some = h .0

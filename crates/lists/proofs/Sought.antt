@@ -1,15 +1,14 @@
--- Loops over a range: one that looks for the lowest number that passes a test, one that counts those that do, and one that asks whether
--- any does. What each has still to find is settled by the numbers from the one it has come to.
+-- Loops over a range: one that looks for the lowest number that passes a test, and one that asks whether any does. What each has still to
+-- find is settled by the numbers from the one it has come to.
 use Prim.Native.Nat.{ℕ, zero, suc, _+_, _-_, _<_, _≤_}
 use native.Mathlib.Nat.{le-refl, sub-zero}
 use native.Mathlib.Numerals.{add-one}
 use native.Mathlib.Omega.{arith}
 use mathlib.Core.Bool.{Bool, true, false, _||_}
 use mathlib.Core.Path.{_≡_, refl, sym, ap, _∙_}
-use lib.ListN.{length}
-use Rattle.lists.specs.Range.{from, upto, keep, any, lowestFrom}
+use Rattle.lists.specs.Range.{from, upto, any, lowestFrom}
 use Rattle.lists.proofs.Split.{cases}
-use Rattle.lists.proofs.Kept.{ahead, ahead-start, ahead-take, ahead-skip, ahead-end}
+use Rattle.lists.proofs.Kept.{ahead, ahead-take, ahead-skip, ahead-end}
 
 module _ (p : ℕ → Bool) where
   pub sought-hit : (i n : ℕ) → i < n → p i ≡ true → lowestFrom p i n ≡ i
@@ -40,35 +39,6 @@ module _ (p : ℕ → Bool) where
 
   pub seek-end : {j n i : ℕ} → Seeking j n i → n ≤ i → i ≡ lowestFrom p j n
   seek-end {n = n} {i = i} s l = let all : i ≡ n = omega arith in all ∙ sym (s .ahead ∙ sought-end _ _ l)
-
-  -- a loop that counts those of 0 .. n − 1 that pass has come to i, with c of them behind it
-  pub record Counting (n i c : ℕ) : Type 0 where
-    pub within : i ≤ n
-    pub few : c ≤ i
-    pub ahead : length (keep p (upto n)) ≡ c + length (ahead p i n)
-
-  pub counting-start : (n : ℕ) → Counting n 0 0
-  counting-start n =
-      record { within = omega arith; few = omega arith; ahead = omega (arith, ap length (ahead-start p n)) }
-
-  pub counting-hit : {n i c : ℕ} → Counting n i c → i < n → p i ≡ true → Counting n (i + 1) (c + 1)
-  counting-hit s l h =
-      record {
-        within = omega arith;
-        few = omega arith;
-        ahead = omega (arith, s .ahead, ap length (ahead-take p _ _ l h));
-      }
-
-  pub counting-miss : {n i c : ℕ} → Counting n i c → i < n → p i ≡ false → Counting n (i + 1) c
-  counting-miss s l h =
-      record {
-        within = omega arith;
-        few = omega arith;
-        ahead = omega (arith, s .ahead, ap length (ahead-skip p _ _ l h));
-      }
-
-  pub counting-end : {n i c : ℕ} → Counting n i c → n ≤ i → c ≡ length (keep p (upto n))
-  counting-end s l = omega (arith, s .ahead, ap length (ahead-end p _ _ l))
 
   -- whether one of i .. n − 1 passes
   unfoldable pub anyAhead : ℕ → ℕ → Bool

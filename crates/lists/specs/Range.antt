@@ -1,7 +1,8 @@
 -- The numbers of a range that pass a test: "lowest", "next" and "ascending" of document 01 are the head, the tail and the order of such a list.
-use Prim.Native.Nat.{ℕ, zero, suc, _-_}
-use mathlib.Core.Bool.{Bool, true, false, _||_}
+use Prim.Native.Nat.{ℕ, zero, suc, _+_, _-_}
+use mathlib.Core.Bool.{Bool, true, false, not, _&&_, _||_}
 use mathlib.Core.List.{List, [], _∷_}
+use lib.Dec.{ltb}
 use Rattle.lists.specs.Choice.{if_then_else_}
 
 -- n numbers from i on: i, i + 1, ..
@@ -40,3 +41,16 @@ lowestFrom p i n = headOr n (keep p (from i (n - i)))
 -- the lowest number below n that passes
 abbrev pub lowest : (ℕ → Bool) → ℕ → ℕ
 lowest p n = lowestFrom p 0 n
+
+-- the sum over the members of a list
+unfoldable pub total : (ℕ → ℕ) → List ℕ → ℕ
+total g [] = 0
+total g (x ∷ xs) = g x + total g xs
+
+-- x passes a test, and of the numbers below n that do none has fewer
+unfoldable pub isFewest : (ℕ → Bool) → (ℕ → ℕ) → ℕ → ℕ → Bool
+isFewest p count n x = p x && not (any (λ y. p y && ltb (count y) (count x)) (upto n))
+
+-- the number below n that has the fewest among those that pass a test, the lowest on a tie, or n where none passes
+unfoldable pub fewest : (ℕ → Bool) → (ℕ → ℕ) → ℕ → ℕ
+fewest p count n = lowest (isFewest p count n) n

@@ -1,109 +1,99 @@
--- A block of at most sixteen frames that starts at a multiple of sixteen: lane and place in the block are one number there. What is kept after
--- its words, by the lowest lane with the page's word and the lowest open lane with a free frame.
-use Prim.Native.Nat.{ℕ, _+_, _%_, _<_, _≤_}
+-- What is kept after the words of a block of at most sixteen frames, which starts at a multiple of sixteen, by what was learnt when they were read into
+-- an array: whether one of them matters, and the counts.
+use Prim.Native.Nat.{ℕ, suc, _+_, _%_, _<_, _≤_, suc-le-suc}
+use native.Mathlib.Nat.{add-zero}
 use native.Mathlib.Omega.{arith}
-use mathlib.Core.Bool.{Bool, false, _&&_, and-true}
-use mathlib.Core.List.{List}
-use mathlib.Core.Path.{_≡_, sym, ap, ap₂, _∙_}
+use mathlib.Core.Bool.{Bool, false, _&&_}
+use mathlib.Core.List.{List, [], _∷_, _++_}
+use mathlib.Core.Path.{_≡_, refl, sym, ap, ap₂, _∙_}
 use lib.Dec.{eqb}
-use lib.ListN.{length, getD, take, replicate, getD-replicate}
-use lib.Seq.{length-take-le, getD-take}
+use lib.ListN.{length, getD, take, drop, replicate, List·getD-append}
+use lib.Seq.{take-at, set-getD}
+use borrow.Author.Tests.{eqb-false, ne-eqb}
 use Rattle.lists.specs.Range.{upto, any, lowest}
 use Rattle.lists.proofs.Split.{neither}
 use Rattle.lists.proofs.Found.{any-none, none-lowest}
 use Rattle.lists.proofs.Same.{same-lowest}
-use Rattle.kept.specs.declared.Kept.{Kept}
-use Rattle.kept.specs.Kept.{noLane, takeAll, soFar, found}
-use Rattle.pass.specs.Steps.{inLane, matters, AtBlock}
-use Rattle.kept.proofs.Closed.{settled, settled-word, settled-free, settled-none, isTaken, in-the-end}
+use Rattle.kept.specs.Kept.{isOwn, countIn, countAll, noteAll, takeAll, soFar, found}
+use Rattle.kept.proofs.Closed.{count-shift, note-quiet, has-come, not-come}
+use Rattle.pass.specs.Steps.{matters, AtBlock}
 
--- the front of a block is searched like the block
-pub same-front : (p : ℕ → ℕ → Bool) (block : List ℕ) (filled : ℕ) → filled ≤ length block → lowest (λ (i : ℕ). p (getD block i 0) i) filled ≡ lowest (λ (i : ℕ). p (getD (take filled block) i 0) i) (length (take filled block))
-same-front p block filled l =
-    same-lowest (λ (i : ℕ). p (getD block i 0) i) (λ (i : ℕ). p (getD (take filled block) i 0) i) filled
-    (λ i h. ap (λ (x : ℕ). p x i) (sym (getD-take filled block i 0 h)))
-    ∙ ap (lowest (λ (i : ℕ). p (getD (take filled block) i 0) i)) (sym (length-take-le filled block l))
+-- a word stands at a place of a list
+abbrev pub isAt : ℕ → List ℕ → ℕ → Bool
+isAt w xs i = eqb (getD xs i 0) w
 
--- where all lanes are open, the word alone counts
-any-lane : (block : List ℕ) (w filled : ℕ) → filled ≤ 16 → lowest (inLane block w (replicate 16 0)) filled ≡ lowest (λ (i : ℕ). eqb (getD block i 0) w) filled
-any-lane block w filled l =
-    same-lowest (inLane block w (replicate 16 0)) (λ (i : ℕ). eqb (getD block i 0) w) filled
-    (λ i h. ap (λ (x : ℕ). eqb (getD block i 0) w && eqb x 0) (getD-replicate {A = ℕ} 16 i 0 0 (omega arith)) ∙ and-true (eqb (getD block i 0) w))
+-- no word of a list is counted
+count-quiet : (p : ℕ → Bool) (lanes : List ℕ) (f : ℕ) (xs : List ℕ) → ((i : ℕ) → i < length xs → p (getD xs i 0) ≡ false) → countAll p lanes f xs ≡ lanes
+unfolding countAll countIn
+count-quiet p lanes f [] none = refl
+count-quiet p lanes f (x ∷ xs) none =
+    rw (none 0 (omega arith), add-zero (getD lanes (f % 16) 0), set-getD lanes (f % 16) 0)
+    (count-quiet p lanes (f + 1) xs (λ i l. none (suc i) (suc-le-suc l)))
 
-module _ (k : Kept) (xs : List ℕ) (at : AtBlock k (length xs)) where
-  abbrev n : ℕ
-  n = length xs
+-- what is learnt of words that are read into an array of zeros: whether one matters, the domain's words counted, and the array
+abbrev pub Learnt : ℕ → ℕ → List ℕ → List ℕ → List ℕ → Bool → List ℕ → List ℕ → Type 0
+Learnt w first held free xs stop counts block =
+    (stop ≡ any (matters xs w free) (upto (length xs))) × ((counts ≡ countAll (isOwn first) held 0 xs) × (block ≡ xs ++ drop (length xs) (replicate 16 0)))
 
-  abbrev shut : List ℕ
-  shut = k .shut
+-- the words of a block of the frames from `taken` on
+module _
+    (w first : ℕ) (held free xs : List ℕ) {taken filled : ℕ} (at : AtBlock taken filled) (full : filled ≡ length xs)
+    {stop : Bool} {counts block : List ℕ} (learnt : Learnt w first held free xs stop counts block) where
+  abbrev rest : List ℕ
+  rest = drop (length xs) (replicate 16 0)
 
-  abbrev pub wordLane : ℕ
-  wordLane = lowest (λ (i : ℕ). eqb (getD xs i 0) (k .word)) n
+  front : take filled block ≡ xs
+  front = ap (take filled) (learnt .1 .1) ∙ take-at xs rest filled (sym full)
 
-  abbrev pub openLane : ℕ
-  openLane = lowest (inLane xs 0 shut) n
+  alike : (p : ℕ → Bool) (lanes : List ℕ) → countAll p lanes 0 xs ≡ countAll p lanes taken xs
+  alike p lanes = count-shift p lanes 0 taken xs (sym (at .aligned))
 
-  kept-is : k ≡ soFar (k .word) shut (k .taken) (k .free)
-  kept-is = λ j. record { word = k .word; shut = shut; taken = k .taken; mapped = at .unmapped j; free = k .free }
+  -- the lanes after its words: the domain's counted, the free frames noted, and others counted
+  pub counts-are : counts ≡ countAll (isOwn first) held taken xs
+  counts-are = learnt .1 .0 ∙ alike (isOwn first) held
 
-  lane-of : (i : ℕ) → i < n → (k .taken + i) % 16 ≡ i
-  lane-of i l = omega (arith, at .aligned, at .few)
+  pub notes-are : (next : List ℕ) → next ≡ noteAll free taken (take filled block) → next ≡ noteAll free taken xs
+  notes-are next e = e ∙ ap (noteAll free taken) front
 
-  lanes-are : lowest (isTaken (k .word) (k .taken) xs shut) n ≡ openLane
-  lanes-are =
-      same-lowest (isTaken (k .word) (k .taken) xs shut) (inLane xs 0 shut) n
-      (λ i l. ap (λ (j : ℕ). eqb (getD xs i 0) 0 && eqb (getD shut j 0) 0) (lane-of i l))
+  pub others-are : (p : ℕ → Bool) (lanes next : List ℕ) → next ≡ countAll p lanes 0 (take filled block) → next ≡ countAll p lanes taken xs
+  others-are p lanes next e = e ∙ ap (countAll p lanes 0) front ∙ alike p lanes
 
-  took : takeAll k xs ≡ settled (k .word) (k .taken) xs shut (k .free) wordLane openLane
-  took =
-      ap (λ (h : Kept). takeAll h xs) kept-is
-      ∙ in-the-end (k .word) (k .taken) xs shut (k .free)
-      ∙ ap (settled (k .word) (k .taken) xs shut (k .free) wordLane) lanes-are
+  -- none of them matters
+  module _ (quiet : stop ≡ false) where
+    none : (i : ℕ) → i < length xs → (isAt w xs i ≡ false) × ((eqb (getD xs i 0) 0 && eqb (getD free i 0) 0) ≡ false)
+    none i l = neither _ _ (any-none (matters xs w free) (length xs) i (sym (learnt .0) ∙ quiet) l)
 
-  pub by-word-lane : wordLane < n → takeAll k xs ≡ found (k .word) (k .taken + wordLane + 1)
-  by-word-lane l = took ∙ settled-word (k .word) (k .taken) xs shut (k .free) wordLane openLane l
+    pub notes-stay : noteAll free taken xs ≡ free
+    notes-stay =
+        note-quiet free taken xs
+        (λ i l. let lane : (taken + i) % 16 ≡ i = omega (arith, at .aligned, at .few) in rw lane (none i l .1))
 
-  pub by-open-lane : n ≤ wordLane → openLane < n → takeAll k xs ≡ soFar (k .word) noLane (k .taken + n) (k .taken + openLane + 1)
-  by-open-lane h l = took ∙ settled-free (k .word) (k .taken) xs shut (k .free) wordLane openLane h l
+    no-word : lowest (isAt w xs) (length xs) ≡ length xs
+    no-word = none-lowest (isAt w xs) (length xs) (λ i l. none i l .0)
 
-  pub by-neither : n ≤ wordLane → n ≤ openLane → takeAll k xs ≡ soFar (k .word) shut (k .taken + n) (k .free)
-  by-neither h l = took ∙ settled-none (k .word) (k .taken) xs shut (k .free) wordLane openLane h l
+    pub others-stay : (lanes : List ℕ) → countAll (eqb w) lanes taken xs ≡ lanes
+    others-stay lanes = count-quiet (eqb w) lanes taken xs (λ i l. ne-eqb w (getD xs i 0) (λ e. eqb-false (getD xs i 0) w (none i l .0) (sym e)))
 
-  -- no word of it matters
-  pub quiet : any (matters xs (k .word) shut) (upto n) ≡ false → takeAll k xs ≡ soFar (k .word) shut (k .taken + n) (k .free)
-  quiet e =
-      let none : (i : ℕ) → i < n → (eqb (getD xs i 0) (k .word) ≡ false) × (inLane xs 0 shut i ≡ false) = λ i l. neither (eqb (getD xs i 0) (k .word)) (inLane xs 0 shut i) (any-none (matters xs (k .word) shut) n i e l) in
-      by-neither (omega (arith, none-lowest (λ (i : ℕ). eqb (getD xs i 0) (k .word)) n (λ i l. none i l .0)))
-      (omega (arith, none-lowest (inLane xs 0 shut) n (λ i l. none i l .1)))
+  -- what is kept in a fault
+  word-is : lowest (isAt w block) filled ≡ lowest (isAt w xs) (length xs)
+  word-is =
+      same-lowest (isAt w block) (isAt w xs) filled
+      (λ i l. ap (λ (y : ℕ). eqb y w) (ap (λ (b : List ℕ). getD b i 0) (learnt .1 .1) ∙ List·getD-append xs rest 0 i (omega (arith, full))))
+      ∙ ap (lowest (isAt w xs)) full
 
--- the words in front of an array, which is looked through
-module _ (k : Kept) (block : List ℕ) (filled : ℕ) (at : AtBlock k filled) (size : length block ≡ 16) where
-  abbrev xs : List ℕ
-  xs = take filled block
+  pub by-word : (lane : ℕ) → lane ≡ lowest (isAt w block) filled → lane < filled → found w first (taken + lane + 1) ≡ takeAll (soFar w first held free taken) xs
+  by-word lane is l =
+      let same : lane ≡ lowest (isAt w xs) (length xs) = is ∙ word-is in
+      ap (λ (i : ℕ). found w first (taken + i + 1)) same ∙ sym (has-come w first taken xs held free (omega (arith, same, full)))
 
-  long : length xs ≡ filled
-  long = length-take-le filled block (omega (arith, at .few))
+  passed : length xs ≤ lowest (isAt w xs) (length xs) → (next : List ℕ) → next ≡ noteAll free taken xs → soFar w first counts next (taken + filled) ≡ takeAll (soFar w first held free taken) xs
+  passed h next e =
+      ap₂ (λ (c l : List ℕ). soFar w first c l (taken + filled)) counts-are e
+      ∙ ap (λ (n : ℕ). soFar w first (countAll (isOwn first) held taken xs) (noteAll free taken xs) (taken + n)) full
+      ∙ sym (not-come w first taken xs held free h)
 
-  at-front : AtBlock k (length xs)
-  at-front = rw long at
+  pub by-other : (lane : ℕ) → lane ≡ lowest (isAt w block) filled → filled ≤ lane → (next : List ℕ) → next ≡ noteAll free taken (take filled block) → soFar w first counts next (taken + filled) ≡ takeAll (soFar w first held free taken) xs
+  by-other lane is l next e = passed (omega (arith, is ∙ word-is, full)) next (notes-are next e)
 
-  module _ (w : ℕ) (w-is : w ≡ lowest (inLane block (k .word) (replicate 16 0)) filled) where
-    word-is : w ≡ wordLane k xs at-front
-    word-is = w-is ∙ any-lane block (k .word) filled (at .few) ∙ same-front (λ (x i : ℕ). eqb x (k .word)) block filled (omega (arith, at .few))
-
-    pub front-word : w < filled → record { word = k .word; shut = noLane; taken = k .taken + w + 1; mapped = k .taken + w + 1; free = 0 } ≡ takeAll k xs
-    front-word l = rw word-is (sym (by-word-lane k xs at-front (omega (arith, word-is, long))))
-
-    module _ (o : ℕ) (o-is : o ≡ lowest (inLane block 0 (k .shut)) filled) (h : filled ≤ w) where
-      open-is : o ≡ openLane k xs at-front
-      open-is = o-is ∙ same-front (λ (x i : ℕ). eqb x 0 && eqb (getD (k .shut) i 0) 0) block filled (omega (arith, at .few))
-
-      pub front-open : o < filled → record { word = k .word; shut = noLane; taken = k .taken + filled; mapped = 0; free = k .taken + o + 1 } ≡ takeAll k xs
-      front-open l =
-          ap₂ (λ (i m : ℕ). soFar (k .word) noLane (k .taken + m) (k .taken + i + 1)) open-is (sym long)
-          ∙ sym (by-open-lane k xs at-front (omega (arith, word-is, long)) (omega (arith, open-is, long)))
-
-      pub front-neither : filled ≤ o → record { word = k .word; shut = k .shut; taken = k .taken + filled; mapped = 0; free = k .free } ≡ takeAll k xs
-      front-neither l =
-          ap (λ (m : ℕ). soFar (k .word) (k .shut) (k .taken + m) (k .free)) (sym long)
-          ∙ sym (by-neither k xs at-front (omega (arith, word-is, long)) (omega (arith, open-is, long)))
+  pub by-none : stop ≡ false → soFar w first counts free (taken + filled) ≡ takeAll (soFar w first held free taken) xs
+  by-none quiet = passed (omega (arith, no-word quiet)) free (sym (notes-stay quiet))

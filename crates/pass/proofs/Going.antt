@@ -1,87 +1,81 @@
--- The pass under way: the numbers kept so far, with the words after them, give what the whole table does. These are the invariant of the loop over
--- the blocks and its laws, which know nothing of the code.
-use Prim.Native.Nat.{ℕ, _+_, _-_, _%_, _≤_}
-use native.Mathlib.Nat.{le-refl, pos-of-ne-zero}
+-- The pass of a fault under way: what is kept is that of the words before the one it has come to. This is the invariant of the loop over the blocks, with
+-- its laws, which know nothing of the code.
+use Prim.Native.Nat.{ℕ, _+_, _-_, _<_, _≤_}
 use native.Mathlib.Omega.{arith}
-use mathlib.Core.Bool.{false}
+use mathlib.Core.Bool.{Bool, false}
 use mathlib.Core.List.{List, _++_}
 use mathlib.Core.Path.{_≡_, refl, sym, ap, _∙_}
-use lib.ListN.{length, take, drop, take-append-drop, length-drop}
-use lib.Seq.{take-all, take-append-seam, length-take-le, drop-drop}
-use Rattle.lists.specs.Range.{upto, any}
+use lib.ListN.{length, take, drop, take-append-drop}
+use lib.Seq.{take-take}
+use Rattle.lists.specs.Range.{lowest}
 use Rattle.kept.specs.declared.Kept.{Kept}
-use Rattle.kept.specs.Kept.{start, takeAll, soFar}
-use Rattle.pass.specs.Steps.{matters, AtBlock}
-use Rattle.kept.proofs.Closed.{known-stays, take-append, not-come}
-use Rattle.pass.proofs.Blocks.{quiet}
+use Rattle.kept.specs.Kept.{isOwn, zeros, Within, noteAll, start, takeAll, soFar, found}
+use Rattle.kept.proofs.Closed.{count-length, count-within, zeros-length, zeros-within, take-append, known-stays}
+use Rattle.pass.specs.Steps.{read, atMost}
+use Rattle.pass.proofs.Loops.{part, up-to}
+use Rattle.pass.proofs.Blocks.{isAt, Learnt, by-word, by-other, by-none}
+use Rattle.pass.proofs.Turns.{AtTurn, turn-start, to-the-end, sixteen, at-block, next-turn}
 
--- words that were read into an array stand in front of it
-pub read-back : (k : Kept) (words rest : List ℕ) → takeAll k (take (length words) (words ++ rest)) ≡ takeAll k words
-read-back k words rest = ap (takeAll k) (take-append-seam words rest)
+module _ (t : List ℕ) (w low : ℕ) where
+  pub record Going (end : ℕ) (held free : List ℕ) (taken : ℕ) : Type 0 where
+    pub turn : AtTurn t end taken
+    pub size : length held ≡ 16
+    pub room : Within taken held
+    pub kept : takeAll (start w low) (take taken t) ≡ soFar w low held free taken
 
-module _ (t : List ℕ) (w : ℕ) (shut : List ℕ) where
-  pub record Going (lanes : List ℕ) (free taken : ℕ) : Type 0 where
-    pub within : taken ≤ length t
-    pub aligned : taken % 16 ≡ 0
-    pub ahead : takeAll (start w shut) t ≡ takeAll (soFar w lanes taken free) (drop taken t)
-
-  pub at-start : Going shut 0 0
-  unfolding start
-  at-start = record { within = omega arith; aligned = refl; ahead = refl }
+  pub going-start : (end : ℕ) → end ≡ atMost 4096 (length t) → Going end zeros zeros 0
+  unfolding start takeAll
+  going-start end e = record { turn = turn-start t end e; size = zeros-length; room = zeros-within 0; kept = refl }
 
   -- the same, after as many words
-  pub on-to : {lanes : List ℕ} {free taken : ℕ} → Going lanes free taken → (next : ℕ) → next ≡ taken → Going lanes free next
-  on-to r next e = rw e r
+  pub as-far : {end : ℕ} {held free : List ℕ} {next : ℕ} (taken : ℕ) → next ≡ taken → Going end held free taken → Going end held free next
+  as-far taken e r = rw e r
 
-  module _ {lanes : List ℕ} {free taken : ℕ} (r : Going lanes free taken) where
-    -- the rest, of fewer than sixteen words
-    pub at-rest : (xs : List ℕ) → xs ≡ take (length t - taken) (drop taken t) → takeAll (start w shut) t ≡ takeAll (soFar w lanes taken free) xs
-    at-rest xs e =
-        r .ahead ∙ ap (takeAll (soFar w lanes taken free)) (sym (e ∙ take-all (length t - taken) (drop taken t) (simp length-drop (le-refl (length t - taken)))))
+  module _ {end : ℕ} {held free : List ℕ} {taken : ℕ} (r : Going end held free taken) where
+    -- the words up to b
+    over : (b : ℕ) → taken ≤ b → takeAll (start w low) (take b t) ≡ takeAll (soFar w low held free taken) (part t taken b)
+    over b from =
+        ap (takeAll (start w low)) (up-to t taken b from)
+        ∙ take-append (start w low) (take taken t) (part t taken b)
+        ∙ ap (λ (k : Kept). takeAll k (part t taken b)) (r .kept)
 
-    -- a block of sixteen
-    module _ (l : 16 ≤ length t - taken) where
-      abbrev pub block : List ℕ
-      block = take (taken + 16 - taken) (drop taken t)
+    -- the last words
+    pub going-end : (b : ℕ) → b ≡ end → takeAll (soFar w low held free taken) (part t taken b) ≡ takeAll (start w low) (read t)
+    going-end b e = ap (λ (n : ℕ). takeAll (soFar w low held free taken) (part t taken n)) e ∙ sym (over end (r .turn .within)) ∙ ap (takeAll (start w low)) (to-the-end t (r .turn))
 
-      sixteen : taken + 16 - taken ≡ 16
-      sixteen = omega arith
+    -- a block was read
+    module _ (l : 16 ≤ end - taken) {stop : Bool} {counts block : List ℕ} (learnt : Learnt w low held free (part t taken (taken + 16)) stop counts block) where
+      abbrev words : List ℕ
+      words = part t taken (taken + 16)
 
-      pub long : length block ≡ 16
-      long = length-take-le (taken + 16 - taken) (drop taken t) (simp length-drop (omega arith)) ∙ sixteen
+      abbrev after : List ℕ
+      after = drop (taken + 16) (read t)
 
-      over : takeAll (start w shut) t ≡ takeAll (takeAll (soFar w lanes taken free) block) (drop (taken + 16) t)
-      over =
-          let next : taken + (taken + 16 - taken) ≡ taken + 16 = omega arith in
-          r .ahead
-          ∙ ap (takeAll (soFar w lanes taken free)) (sym (take-append-drop (taken + 16 - taken) (drop taken t)))
-          ∙ take-append (soFar w lanes taken free) block (drop (taken + 16 - taken) (drop taken t))
-          ∙ ap (takeAll (takeAll (soFar w lanes taken free) block)) (drop-drop (taken + 16 - taken) taken t ∙ ap (λ (i : ℕ). drop i t) next)
+      -- the page's word is in it
+      pub going-found : (lane : ℕ) → lane ≡ lowest (isAt w block) 16 → lane < 16 → found w low (taken + lane + 1) ≡ takeAll (start w low) (read t)
+      going-found lane is h =
+          let has = by-word w low held free words (at-block t (r .turn) l) (sixteen t (r .turn) l) learnt lane is h in
+          let all : take (taken + 16) t ++ after ≡ read t = ap (λ (xs : List ℕ). xs ++ after) (sym (take-take (taken + 16) 4096 t (omega (arith, r .turn .ends)))) ∙ take-append-drop (taken + 16) (read t) in
+          sym
+          (ap (takeAll (start w low)) (sym all)
+          ∙ take-append (start w low) (take (taken + 16) t) after
+          ∙ ap (λ (k : Kept). takeAll k after) (over (taken + 16) (omega arith) ∙ sym has)
+          ∙ known-stays (found w low (taken + lane + 1)) after (omega arith))
 
-      after-it : taken + length block ≡ taken + 16
-      after-it = omega (arith, long)
-
-      -- no word of it matters
-      pub past-it : AtBlock (soFar w lanes taken free) (length block) → any (matters block w lanes) (upto (length block)) ≡ false → Going lanes free (taken + 16)
-      past-it at e =
+      on : (next : List ℕ) → soFar w low counts next (taken + 16) ≡ takeAll (soFar w low held free taken) words → Going end counts next (taken + 16)
+      on next is =
           record {
-            within = omega (arith, r .within);
-            aligned = omega (arith, r .aligned);
-            ahead = over
-                ∙ ap (λ (k : Kept). takeAll k (drop (taken + 16) t)) (quiet (soFar w lanes taken free) block at e ∙ ap (λ (i : ℕ). soFar w lanes i free) after-it);
+            turn = next-turn t (r .turn) l;
+            size = ap length (learnt .1 .0) ∙ count-length (isOwn low) held 0 words ∙ r .size;
+            room = λ i. rw (learnt .1 .0) (omega (arith, count-within (isOwn low) taken held 0 words (r .room) i, sixteen t (r .turn) l));
+            kept = over (taken + 16) (omega arith) ∙ sym is;
           }
 
-      -- it was looked through
-      module _ (k : Kept) (is : k ≡ takeAll (soFar w lanes taken free) block) where
-        pub ends : (k .mapped ≡ 0 → ⊥) → k ≡ takeAll (start w shut) t
-        ends some = sym (over ∙ ap (λ (h : Kept). takeAll h (drop (taken + 16) t)) (sym is) ∙ known-stays k (drop (taken + 16) t) (pos-of-ne-zero some))
+      -- it is not, and the free frames are noted
+      pub going-past : (lane : ℕ) → lane ≡ lowest (isAt w block) 16 → 16 ≤ lane → (next : List ℕ) → next ≡ noteAll free taken (take 16 block) → Going end counts next (taken + 16)
+      going-past lane is h next e =
+          on next (by-other w low held free words (at-block t (r .turn) l) (sixteen t (r .turn) l) learnt lane is h next e)
 
-        pub goes-on : k .mapped ≡ 0 → Going (k .shut) (k .free) (taken + 16)
-        goes-on none =
-            let none-there = sym (ap (λ (h : Kept). h .mapped) is) ∙ none in
-            let all = not-come w taken block lanes free none-there ∙ ap (λ (h : Kept). soFar w (h .shut) (taken + length block) (h .free)) (sym is) ∙ ap (λ (i : ℕ). soFar w (k .shut) i (k .free)) after-it in
-            record {
-              within = omega (arith, r .within);
-              aligned = omega (arith, r .aligned);
-              ahead = over ∙ ap (λ (h : Kept). takeAll h (drop (taken + 16) t)) all;
-            }
+      -- no word of it matters
+      pub going-over : stop ≡ false → Going end counts free (taken + 16)
+      going-over quiet = on free (by-none w low held free words (at-block t (r .turn) l) (sixteen t (r .turn) l) learnt quiet)

@@ -1,23 +1,32 @@
--- What the code works out on its way: which word of a block matters, and what it knows at the start of one.
+-- What the code works out on its way: how much of a table it reads, which word of a block matters, and what it knows at the start of one; and the
+-- lanes of a table for a recolouring.
 use Prim.Native.Nat.{ℕ, _+_, _%_, _≤_}
 use mathlib.Core.Bool.{Bool, _&&_, _||_}
 use mathlib.Core.List.{List}
 use mathlib.Core.Path.{_≡_}
-use lib.Dec.{eqb}
-use lib.ListN.{getD}
-use Rattle.kept.specs.declared.Kept.{Kept}
+use lib.Dec.{eqb, ltb}
+use lib.ListN.{getD, take}
+use Rattle.lists.specs.Choice.{if_then_else_}
+use Rattle.kept.specs.Kept.{isOwn, zeros, countAll, noteAll}
+use Rattle.pass.specs.declared.lanes.Surveyed.{Surveyed}
 
--- word i of a block is w, and its lane is open
-abbrev pub inLane : List ℕ → ℕ → List ℕ → ℕ → Bool
-inLane xs w shut i = eqb (getD xs i 0) w && eqb (getD shut i 0) 0
+-- a table has at most 4,096 words, and the words of a domain that starts with the highest first word end with 65,535
+abbrev pub read : List ℕ → List ℕ
+read t = take 4096 t
 
--- it is w, or is that of a free frame in an open lane
+unfoldable pub atMost : ℕ → ℕ → ℕ
+atMost m n = if ltb n m then n else m
+
+-- word i of a block is w, or is that of a free frame whose lane has none yet
 abbrev pub matters : List ℕ → ℕ → List ℕ → ℕ → Bool
-matters xs w shut i = eqb (getD xs i 0) w || inLane xs 0 shut i
+matters xs w free i = eqb (getD xs i 0) w || (eqb (getD xs i 0) 0 && eqb (getD free i 0) 0)
 
--- a block of so many words is about to be taken in
-pub record AtBlock (k : Kept) (filled : ℕ) : Type 0 where
-  pub aligned : k .taken % 16 ≡ 0
+-- a block of so many words is about to be taken in, after so many words
+pub record AtBlock (taken filled : ℕ) : Type 0 where
+  pub aligned : taken % 16 ≡ 0
   pub few : filled ≤ 16
-  pub unmapped : k .mapped ≡ 0
-  pub counted : k .taken + filled ≤ 4611686018427387904
+  pub counted : taken + filled ≤ 4096
+
+-- by lane, the frames that the domain with this first word holds, the lowest free frame, and the free frames
+unfoldable pub surveyOf : ℕ → List ℕ → Surveyed
+surveyOf first t = record { held = countAll (isOwn first) zeros 0 t; free = noteAll zeros 0 t; count = countAll (eqb 0) zeros 0 t }

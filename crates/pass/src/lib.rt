@@ -1,33 +1,49 @@
-// The one pass of a fault over the frame table: document 02, No. 2. The words are taken in upwards, each
-// once; what is kept between two words is `Kept` and the words of the block of sixteen frames under way.
+// The passes over the frame table, in blocks of sixteen frames. That of a fault: document 02, Nos. 2 and 7, the
+// words are taken in upwards, each once; what is kept between two words is `Kept` and the words of the block
+// under way. And the survey that a recolouring starts with. Words beyond 4,096 are not read, since no table has
+// them.
 mod block;
+mod lanes;
 
 ghost use mathlib.Core.Path.{_≡_};
 ghost use Rattle.kept.specs.Kept.{start, takeAll};
+ghost use Rattle.pass.specs.Steps.{read, atMost};
 use crate::block::finish;
-use crate::block::settle;
-use crate::block::so_far;
+use crate::block::found;
+use crate::block::lane_of;
+use crate::block::note;
 use crate::block::take_in;
+use crate::lanes::at_most;
 use kept::Kept;
+pub use lanes::Surveyed;
+pub use lanes::survey;
 
 // What is kept when the words are over, or the page's word has come.
-pub fn go_over(table: &[u16], word: u16, shut: [u16; 16]) -> Kept
-    ensures { λ r. ⌜ r ≡ takeAll (start word shut) (now (table .entry)) ⌝ }
+pub fn go_over(table: &[u16], word: u16, first: u16) -> Kept
+    ensures { λ r. ⌜ r ≡ takeAll (start word (atMost 61440 first)) (read (now (table .entry))) ⌝ }
 {
-    let mut lanes = shut;
-    let mut free: usize = 0;
+    let low = at_most(61440, first as usize) as u16;
+    let end = at_most(4096, table.len());
+    let mut held = [0u16; 16];
+    let mut free = [0u16; 16];
     let mut taken: usize = 0;
-    while 16 <= table.len() - taken {
+    while 16 <= end - taken {
         let mut block = [0u16; 16];
-        if take_in(&table[taken..taken + 16], word, &lanes, &mut block) {
-            let kept = settle(so_far(word, lanes, taken, free), block, 16);
-            if kept.mapped != 0 {
-                return kept;
+        if take_in(
+            &table[taken..taken + 16],
+            word,
+            low,
+            &free,
+            &mut held,
+            &mut block,
+        ) {
+            let lane = lane_of(block, 16, word);
+            if lane < 16 {
+                return found(word, low, taken + lane + 1);
             }
-            lanes = kept.shut;
-            free = kept.free;
+            free = note(block, 16, free, taken);
         }
         taken += 16;
     }
-    finish(so_far(word, lanes, taken, free), &table[taken..])
+    finish(&table[taken..end], word, low, held, free, taken)
 }

@@ -1,59 +1,41 @@
--- `pass::go_over` meets its contract, by the laws of a pass under way (`Going`).
+-- `pass::go_over` meets its contract, by the laws of a pass under way (`Turns`, `Going`).
 use Prim.Native.Nat.{ℕ, _+_, _-_}
 use native.Mathlib.Omega.{arith}
-use native.Mathlib.Nat.{le-refl}
-use mathlib.Core.List.{List}
 use mathlib.Core.Logic.{⊎-elim}
-use mathlib.Core.Path.{_≡_, refl, sym, ap, ap₂, _∙_}
+use mathlib.Core.Path.{_≡_, refl, sym, ap, _∙_}
 use borrow.Author.Needs.{needs}
-use lib.ListN.{length, take, drop, length-take, length-drop}
-use Rattle.kept.specs.declared.Kept.{Kept}
-use Rattle.kept.specs.Kept.{takeAll, soFar}
-use Rattle.pass.specs.Steps.{AtBlock}
-use Rattle.pass.proofs.Going.{Going, block, long, at-start, at-rest, on-to, past-it, ends, goes-on, read-back}
+use Rattle.kept.specs.Kept.{zeros, start, takeAll}
+use Rattle.pass.specs.Steps.{read, atMost}
+use Rattle.pass.proofs.Turns.{not-above, sixteen, at-block, at-last}
+use Rattle.pass.proofs.Going.{Going, going-start, as-far, going-found, going-past, going-over, going-end}
 use Rattle.pass.proofs.go_over.Statement.{statement}
 use Rattle.pass.proofs.go_over.Tie as tie
 
 abbrev Inv-loop : tie.InvT-loop
-Inv-loop table word lanes₀ free₀ taken₀ lanes free taken = Going table word lanes₀ lanes free taken
+Inv-loop table word first low end held₀ free₀ taken₀ held free taken = (low ≡ atMost 61440 first) × Going table word low end held free taken
 
 abbrev μ-loop : tie.MeasureT-loop
-μ-loop table word lanes₀ free₀ taken₀ lanes free taken = length table - taken
+μ-loop table word first low end held₀ free₀ taken₀ held free taken = end - taken
 
--- the places: the entry, the turn of the loop, and the turn after its first call
-abbrev entry : tie.In-loop Inv-loop μ-loop → tie.Start Inv-loop μ-loop
-entry c = c .before .before .before
+-- the places: the entry, and the turn of the loop
+abbrev entry : tie.At-loop Inv-loop μ-loop → tie.Start Inv-loop μ-loop
+entry c = c .before .before .before .before
 
 abbrev turn : tie.After-block Inv-loop μ-loop → tie.In-loop Inv-loop μ-loop
-turn c = c .before .before .before
+turn c = c .before .before .before .before
 
-abbrev read : tie.After-take-in Inv-loop μ-loop → tie.In-loop Inv-loop μ-loop
-read c = turn (c .before)
+at-most-requires : tie.Need-at-most-requires Inv-loop μ-loop
+at-most-requires c κs = search needs
 
--- what is kept in a turn, and the words of its block
-abbrev here : tie.In-loop Inv-loop μ-loop → Kept
-here c = let h = c .before .loop in soFar (entry c .args .word) (h .lanes) (h .taken) (h .free)
+cast-low : tie.Need-cast-low Inv-loop μ-loop
+cast-low c = omega (arith, not-above 61440 _ _ (c .at-most .ensures))
 
-abbrev words : tie.In-loop Inv-loop μ-loop → List ℕ
-words c = block (entry c .args .table .now) (entry c .args .word) (entry c .args .shut) (c .before .loop .inv) (c .loop-test .taken)
-
-sixteen : (c : tie.In-loop Inv-loop μ-loop) → length (words c) ≡ 16
-sixteen c = long (entry c .args .table .now) (entry c .args .word) (entry c .args .shut) (c .before .loop .inv) (c .loop-test .taken)
-
--- those read stand in front of the block that is looked through
-looked-through :
-    (c : tie.After-take-in Inv-loop μ-loop) (h k : Kept)
-    → h ≡ here (read c)
-    → k ≡ takeAll h (take 16 (c .take-in .last .1 .1 .1 .0))
-    → k ≡ takeAll (here (read c)) (words (read c))
-looked-through c h k is e =
-    e
-    ∙ ap (λ (j : Kept). takeAll j (take 16 (c .take-in .last .1 .1 .1 .0))) is
-    ∙ ap₂ (λ (n : ℕ) (bs : List ℕ). takeAll (here (read c)) (take n bs)) (sym (sixteen (read c))) (c .take-in .ensures .1)
-    ∙ read-back (here (read c)) (words (read c)) _
+at-most-requires-2 : tie.Need-at-most-requires-2 Inv-loop μ-loop
+at-most-requires-2 c κs = search needs
 
 loop-holds : tie.Need-loop-holds Inv-loop μ-loop
-loop-holds c = at-start _ _ _
+unfolding zeros
+loop-holds c = (c .before .at-most .ensures, going-start _ _ _ _ (c .at-most2 .ensures))
 
 sub-loop : tie.Need-sub-loop Inv-loop μ-loop
 sub-loop c = omega arith
@@ -74,22 +56,40 @@ part-take-in-end : tie.Need-part-take-in-end Inv-loop μ-loop
 part-take-in-end c = omega arith
 
 take-in-requires : tie.Need-take-in-requires Inv-loop μ-loop
-take-in-requires c κs = (omega (arith, sixteen (turn c)), refl)
+take-in-requires c κs =
+    let o = turn c in
+    let v = o .before .loop .inv in (
+      omega (arith, sixteen _ (v .1 .turn) (o .loop-test .taken)),
+      sym (v .1 .size),
+      refl,
+      not-above 61440 _ _ (v .0),
+      λ i. omega (arith, v .1 .room i),
+    )
 
-so-far-requires : tie.Need-so-far-requires Inv-loop μ-loop
-so-far-requires c κs = search needs
+lane-of-requires : tie.Need-lane-of-requires Inv-loop μ-loop
+lane-of-requires c κs = search needs
 
-settle-requires : tie.Need-settle-requires Inv-loop μ-loop
-settle-requires c κs =
-    let h = read (c .before .before) .before .loop in
-    rw (c .so-far .ensures) (record { aligned = h .inv .aligned; few = le-refl 16; unmapped = refl; counted = omega arith })
+add-found : tie.Need-add-found Inv-loop μ-loop
+add-found c = omega arith
+
+add-found-2 : tie.Need-add-found-2 Inv-loop μ-loop
+add-found-2 c = omega arith
+
+found-requires : tie.Need-found-requires Inv-loop μ-loop
+found-requires c κs = search needs
 
 returns : tie.Need-returns Inv-loop μ-loop
 returns c =
-    let d = c .before .before .before .before .before in
-    let s = entry (read d) in
-    ends (s .args .table .now) (s .args .word) (s .args .shut) (read d .before .loop .inv) (read d .loop-test .taken) _
-    (looked-through d _ _ (c .before .before .before .so-far .ensures) (c .before .before .settle .ensures)) (c .if2 .taken)
+    let d = c .before .before .before .before in
+    let o = turn (d .before) in
+    let s = entry (o .before) in
+    let v = o .before .loop .inv in
+    c .found .ensures
+    ∙ going-found _ _ _ (v .1) (o .loop-test .taken) (d .take-in .ensures) _ (c .before .before .lane-of .ensures) (c .before .if2 .taken)
+    ∙ ap (λ (n : ℕ). takeAll (start (s .args .word) n) (read (s .args .table .now))) (v .0)
+
+note-requires : tie.Need-note-requires Inv-loop μ-loop
+note-requires c κs = let o = turn (c .before .before .before .before) in at-block _ (o .before .loop .inv .1 .turn) (o .loop-test .taken)
 
 add-taken : tie.Need-add-taken Inv-loop μ-loop
 add-taken c = omega arith
@@ -100,18 +100,15 @@ loop-less c = omega arith
 loop-again : tie.Need-loop-again Inv-loop μ-loop
 loop-again c =
     let d = c .before in
-    let s = entry (read d) in
-    let h = read d .before .loop in
-    let at : AtBlock (here (read d)) (length (words (read d))) = record { aligned = h .inv .aligned; few = omega (arith, sixteen (read d)); unmapped = refl; counted = omega (arith, sixteen (read d)) } in
-    let further : Going (s .args .table .now) (s .args .word) (s .args .shut) (c .if1 .lanes) (c .if1 .free) (h .taken + 16) =
-    ⊎-elim
-    (λ w. rw (w .6, w .7) (goes-on (s .args .table .now) (s .args .word) (s .args .shut) (h .inv) (read d .loop-test .taken) (w .2 .result) (looked-through d _ _ (w .1 .ensures) (w .2 .ensures)) (w .4 .left)))
-    (λ w. rw (w .1, w .2) (past-it (s .args .table .now) (s .args .word) (s .args .shut) (h .inv) (read d .loop-test .taken) at (sym (d .take-in .ensures .0) ∙ w .0 .left)))
-    (c .if1 .came) in
-    on-to (s .args .table .now) (s .args .word) (s .args .shut) further _ (omega arith)
-
-so-far-requires-2 : tie.Need-so-far-requires-2 Inv-loop μ-loop
-so-far-requires-2 c κs = search needs
+    let o = turn (d .before) in
+    let h = o .before .loop in (
+      h .inv .0,
+      as-far _ _ _ (h .taken + 16) (omega arith)
+          (⊎-elim
+          (λ w. rw (w .4) (going-past _ _ _ (h .inv .1) (o .loop-test .taken) (d .take-in .ensures) _ (w .1 .ensures) (w .2 .left) _ (w .3 .ensures)))
+          (λ w. rw (w .1) (going-over _ _ _ (h .inv .1) (o .loop-test .taken) (d .take-in .ensures) (w .0 .left)))
+          (c .if1 .came)),
+    )
 
 mul-finish : tie.Need-mul-finish Inv-loop μ-loop
 mul-finish c = omega arith
@@ -127,21 +124,16 @@ part-finish-end c = omega arith
 
 finish-requires : tie.Need-finish-requires Inv-loop μ-loop
 finish-requires c κs =
-    let d = c .before in
-    let h = d .before .before .loop in
-    rw (d .so-far2 .ensures)
-    (record { aligned = h .inv .aligned; few = simp (length-take, length-drop) (omega arith); unmapped = refl; counted = simp (length-take, length-drop) (omega arith) })
+    let v = c .before .before .loop .inv in
+    (at-last _ (v .1 .turn) _ (omega arith) (c .before .loop-test .left), not-above 61440 _ _ (v .0), v .1 .room)
 
 returns-2 : tie.Need-returns-2 Inv-loop μ-loop
 returns-2 c =
-    let d = c .before .before in
-    let s = d .before .before .before .before in
-    let t : List ℕ = s .args .table .now in
-    let f : ℕ = d .before .before .loop .taken in
-    let rest : List ℕ = take (length t - f) (drop f t) in
+    let l = c .before .before .before in
+    let s = entry l in
     c .finish .ensures
-    ∙ ap (λ (k : Kept). takeAll k rest) (d .so-far2 .ensures)
-    ∙ sym (at-rest t (s .args .word) (s .args .shut) (d .before .before .loop .inv) rest refl)
+    ∙ going-end _ _ _ (l .loop .inv .1) _ (omega arith)
+    ∙ ap (λ (n : ℕ). takeAll (start (s .args .word) n) (read (s .args .table .now))) (l .loop .inv .0)
 
 pub go-over-spec : {M : Type 1} → statement M
 go-over-spec =
@@ -149,6 +141,9 @@ go-over-spec =
     (tie.spec
     Inv-loop
     μ-loop
+    at-most-requires
+    cast-low
+    at-most-requires-2
     loop-holds
     sub-loop
     add-take-in
@@ -157,13 +152,15 @@ go-over-spec =
     part-take-in-start
     part-take-in-end
     take-in-requires
-    so-far-requires
-    settle-requires
+    lane-of-requires
+    add-found
+    add-found-2
+    found-requires
     returns
+    note-requires
     add-taken
     loop-less
     loop-again
-    so-far-requires-2
     mul-finish
     sub-finish
     part-finish-start

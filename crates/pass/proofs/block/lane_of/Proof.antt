@@ -1,16 +1,18 @@
 -- `pass::block::lane_of` meets its contract. The invariant: the lane sought is sought from `i` on.
-use Prim.Native.Nat.{_-_}
+use Prim.Native.Nat.{ℕ, _-_}
 use native.Mathlib.Omega.{arith}
+use lib.Dec.{eqb}
+use lib.ListN.{getD}
 use Rattle.lists.proofs.Sought.{Seeking, seek-start, seek-hit, seek-miss, seek-end}
-use Rattle.pass.specs.Steps.{inLane}
+use borrow.Author.Tests.{eq-eqb, ne-eqb}
 use Rattle.pass.proofs.block.lane_of.Statement.{statement}
 use Rattle.pass.proofs.block.lane_of.Tie as tie
 
 abbrev Inv-loop : tie.InvT-loop
-Inv-loop filled word block shut i₀ i = Seeking (inLane block word shut) 0 filled i
+Inv-loop filled word block i₀ i = Seeking (λ (j : ℕ). eqb (getD block j 0) word) 0 filled i
 
 abbrev μ-loop : tie.MeasureT-loop
-μ-loop filled word block shut i₀ i = filled - i
+μ-loop filled word block i₀ i = filled - i
 
 loop-holds : tie.Need-loop-holds Inv-loop μ-loop
 loop-holds c = seek-start _ _ _ (omega arith)
@@ -21,14 +23,8 @@ mul-if1 c = omega arith
 array-read-if1 : tie.Need-array-read-if1 Inv-loop μ-loop
 array-read-if1 c = omega arith
 
-mul-if1-2 : tie.Need-mul-if1-2 Inv-loop μ-loop
-mul-if1-2 c = omega arith
-
-array-read-if1-2 : tie.Need-array-read-if1-2 Inv-loop μ-loop
-array-read-if1-2 c = omega arith
-
 returns : tie.Need-returns Inv-loop μ-loop
-returns c = seek-hit _ (c .before .before .loop .inv) (omega arith) (c .if1 .taken)
+returns c = seek-hit _ (c .before .before .loop .inv) (omega arith) (eq-eqb _ _ (c .if1 .taken))
 
 add-i : tie.Need-add-i Inv-loop μ-loop
 add-i c = omega arith
@@ -37,7 +33,7 @@ loop-less : tie.Need-loop-less Inv-loop μ-loop
 loop-less c = omega arith
 
 loop-again : tie.Need-loop-again Inv-loop μ-loop
-loop-again c = seek-miss _ (c .before .before .loop .inv) (omega arith) (c .if1 .left)
+loop-again c = seek-miss _ (c .before .before .loop .inv) (omega arith) (ne-eqb _ _ (c .if1 .left))
 
 returns-2 : tie.Need-returns-2 Inv-loop μ-loop
 returns-2 c = seek-end _ (c .before .loop .inv) (omega arith)
@@ -51,8 +47,6 @@ lane-of-spec =
     loop-holds
     mul-if1
     array-read-if1
-    mul-if1-2
-    array-read-if1-2
     returns
     add-i
     loop-less
