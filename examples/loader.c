@@ -1,9 +1,10 @@
 /*
  * A loader in small: it sees that the archive is its header's, asks for the colours of its cache, boots a
  * board with two guests, faults pages in, recolours a guest, sees that a guest's frames lie evenly over its
- * colours, and admits the plan of document 01, knowing beforehand how many rounds that can take. Each reply is
- * held against what document 01 says, the even use of colours and the rounds against document 02, Nos. 7 and 9,
- * and the exit status is 1 where one differs, 2 with an archive of another interface.
+ * colours and that pages to copy go upwards, and admits the plan of document 01, knowing beforehand how many
+ * rounds that can take. Each reply is held against what document 01 says, the order of pages, the even use of
+ * colours and the rounds against document 02, Nos. 4, 7 and 9, and the exit status is 1 where one differs, 2
+ * with an archive of another interface.
  */
 #include <stdio.h>
 
@@ -108,26 +109,29 @@ static void show_table(const uint16_t *table, const uint16_t *expected)
     printf("\n");
 }
 
-/* Domain 0 gives up colour 1: its one frame there moves, and the loader copies that page. */
-static void show_recolour(struct juzvanec_board *board, uint16_t *table)
+/* Domain 0 recolours, and the loader copies the pages, upwards as the moves stand. */
+static void show_recolour(struct juzvanec_board *board, uint16_t *table, uint32_t new_set, const uint16_t *expected,
+                          uint32_t expected_count)
 {
     uint16_t moves[JUZVANEC_MOVE_WORDS * FRAMES];
     uint32_t count, set, row, i;
 
     expect("refusal",
-           juzvanec_recolour(board, table, FRAMES, 0, 0x1, moves, sizeof moves / sizeof *moves, &count, &row),
+           juzvanec_recolour(board, table, FRAMES, 0, new_set, moves, sizeof moves / sizeof *moves, &count, &row),
            JUZVANEC_ANSWERED);
-    printf("domain 0 recolours to 0x1: moves %lu\n", (unsigned long)count);
-    expect("moves", count, 1);
+    printf("domain 0 recolours to 0x%lx: moves %lu\n", (unsigned long)new_set, (unsigned long)count);
+    expect("moves", count, expected_count);
     for (i = 0; i < count; i++) {
         const uint16_t *move = moves + JUZVANEC_MOVE_WORDS * i;
 
         printf("copy page %u from frame %u to frame %u\n", (unsigned)move[0], (unsigned)move[1],
                (unsigned)move[2]);
     }
+    for (i = 0; i < JUZVANEC_MOVE_WORDS * expected_count; i++)
+        expect("word of the moves", moves[i], expected[i]);
     expect("refusal", juzvanec_colours(board, table, FRAMES, 0, &set, &row), JUZVANEC_ANSWERED);
-    expect("active set", set, 0x1);
-    expect("board's set", board->active[0], 0x1);
+    expect("active set", set, new_set);
+    expect("board's set", board->active[0], new_set);
 }
 
 static void show_release(const struct juzvanec_board *board, uint16_t *table, uint32_t domain, uint32_t page,
@@ -157,8 +161,23 @@ static void show_even_use(const struct juzvanec_board *board, uint16_t *table)
     show_fault(board, table, 1, 3, JUZVANEC_ANSWERED, 3);
 }
 
+/*
+ * Domain 0 gives up colour 0 for colour 1. Its frames there are 0, for page 2, and 4, for page 1; they go to
+ * frames 1 and 5, in this order. In the list page 1 stands first.
+ */
+static void show_page_order(struct juzvanec_board *board, uint16_t *table)
+{
+    static const uint16_t moves[2 * JUZVANEC_MOVE_WORDS] = {1, 4, 5, 2, 0, 1};
+    static const uint16_t after[FRAMES] = {0, 3, 0, 4100, 0, 2, 4099};
+
+    show_recolour(board, table, 0x2, moves, 2);
+    show_table(table, after);
+}
+
 static void show_frames(void)
 {
+    /* domain 0 gives up colour 1, where it has one frame */
+    static const uint16_t move[JUZVANEC_MOVE_WORDS] = {1, 1, 4};
     static const uint16_t booted[FRAMES] = {JUZVANEC_PAGE_WORD(0, 9), JUZVANEC_PAGE_WORD(0, 1),
                                             JUZVANEC_PAGE_WORD(1, 0)};
     static const uint16_t recoloured[FRAMES] = {10, 0, 4097, 0, 2};
@@ -170,7 +189,7 @@ static void show_frames(void)
     show_fault(&board, table, 1, 0, JUZVANEC_ANSWERED, 2);
     show_fault(&board, table, 0, 1, JUZVANEC_ANSWERED, 1);
     show_table(table, booted);
-    show_recolour(&board, table);
+    show_recolour(&board, table, 0x1, move, 1);
     show_table(table, recoloured);
     show_look(&board, table, 0, 1, 1, 4);
     show_look(&board, table, 1, 1, 0, 0);
@@ -178,6 +197,7 @@ static void show_frames(void)
     show_release(&board, table, 0, 9, 0);
     show_fault(&board, table, 0, 2, JUZVANEC_ANSWERED, 0);
     show_even_use(&board, table);
+    show_page_order(&board, table);
 }
 
 /* The plan of the program `admit` in document 01: one guest, a VCPU and two tasks. */

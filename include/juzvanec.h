@@ -40,7 +40,7 @@ extern "C" {
  *     if (juzvanec_interface() != JUZVANEC_INTERFACE)
  *         do not boot
  */
-#define JUZVANEC_INTERFACE 4u
+#define JUZVANEC_INTERFACE 5u
 
 /* Limits. */
 #define JUZVANEC_MOST_COLOURS 16u
@@ -196,8 +196,10 @@ uint32_t juzvanec_colours(const struct juzvanec_board *board, const uint16_t *ta
  * The domain's frames outside the new set, ascending, go one by one to free frames inside it, each chosen as
  * a fault chooses, with the frames that were moved before counted; no frame vacated on the way is taken. The
  * old frames become free, and the set is the domain's active one in the board. *count is the number of moves.
- * The move list receives JUZVANEC_MOVE_WORDS words for each, in any order of moves, and its rest does not
- * change. The pages' contents are the caller's to copy. Refusals 2 to 9, 12, 13.
+ * The move list receives JUZVANEC_MOVE_WORDS words for each, by ascending page, equal pages by ascending old
+ * frame, and its rest does not change. The pages' contents are the caller's to copy, in any order: no frame is
+ * both left and taken. An array of 8,192 bytes has a place in the list for each page, so that the call takes
+ * at most 8,960 bytes of stack. Refusals 2 to 9, 12, 13.
  */
 uint32_t juzvanec_recolour(struct juzvanec_board *board, uint16_t *table, size_t table_words,
                            uint32_t domain, uint32_t set, uint16_t *moves, size_t move_words,

@@ -275,13 +275,15 @@ impl Case for Boot {
     }
 }
 
-/// Domain 0 recolours to a set, which takes that many moves; board and table are copied first.
+/// Domain 0 recolours to a set, which takes that many moves; board and table are copied first. The baseline goes
+/// by the library's method, or sorts.
 pub struct Recolour {
     start: Frames,
     set: u32,
     expected: u32,
     now: Frames,
     moves: Vec<u16>,
+    by_sort: bool,
 }
 
 impl Recolour {
@@ -292,6 +294,14 @@ impl Recolour {
             expected,
             moves: vec![0; 3 * table.len()],
             now: Frames::new(board, table, 0),
+            by_sort: false,
+        }
+    }
+
+    pub fn by_sort(self) -> Self {
+        Recolour {
+            by_sort: true,
+            ..self
         }
     }
 
@@ -313,7 +323,10 @@ impl Recolour {
         self.restore();
         let Frames { board, table, .. } = &mut self.now;
         let set = black_box(self.set);
-        baseline::recolour(board, table, 0, set, &mut self.moves)
+        match self.by_sort {
+            true => baseline::recolour_by_sort(board, table, 0, set, &mut self.moves),
+            false => baseline::recolour(board, table, 0, set, &mut self.moves),
+        }
     }
 }
 
@@ -339,7 +352,10 @@ impl Case for Recolour {
     }
 
     fn symbols(&self) -> [&'static str; 2] {
-        ["juzvanec_recolour", "baseline_recolour"]
+        match self.by_sort {
+            true => ["juzvanec_recolour", "baseline_recolour_by_sort"],
+            false => ["juzvanec_recolour", "baseline_recolour"],
+        }
     }
 }
 

@@ -75,15 +75,28 @@ fn moving(frames: u32) -> u32 {
     frames * 125 / 256
 }
 
-/// One domain with all colours holds most frames of the lower half, and so many of three colours of the upper,
+/// The page of a frame that has to move.
+type Page = fn(u32) -> u32;
+
+/// Pages that rise and fall with the frames, and pages as if by chance: each step takes no two numbers to one, so
+/// that no two frames have one page.
+const RISING: Page = |frame| frame;
+const FALLING: Page = |frame| 4095 - frame;
+const SCATTERED: Page = |frame| {
+    let mixed = 1597 * frame % 4096;
+    let mixed = (mixed ^ mixed >> 7) * 2837 % 4096;
+    mixed ^ mixed >> 5
+};
+
+/// One domain with all colours holds so many frames of the lower half, and so many of three colours of the upper,
 /// the last ones.
-fn lower_half(frames: u32, upper: [u32; 3]) -> (Board, Vec<u16>) {
+fn lower_half(frames: u32, lower: u32, page: Page, upper: [u32; 3]) -> (Board, Vec<u16>) {
     let mut board = board(frames, &[0xFFFF]);
     board.active[0] = 0x00FF;
     let mut table = vec![0; frames as usize];
-    let lower = (0..frames).filter(|frame| frame % 16 < 8);
-    for frame in lower.take(moving(frames) as usize) {
-        table[frame as usize] = word(0, frame);
+    let first = (0..frames).filter(|frame| frame % 16 < 8);
+    for frame in first.take(lower as usize) {
+        table[frame as usize] = word(0, page(frame));
     }
     for (colour, count) in (8..).zip(upper) {
         for frame in (colour..frames).step_by(16).rev().take(count as usize) {
@@ -93,18 +106,27 @@ fn lower_half(frames: u32, upper: [u32; 3]) -> (Board, Vec<u16>) {
     (board, table)
 }
 
-/// A recolouring to the upper half.
-fn recolouring(frames: u32) -> Recolour {
-    let (board, table) = lower_half(frames, [0; 3]);
-    Recolour::new(board, table, 0xFF00, moving(frames))
+/// A recolouring of so many frames to the upper half.
+fn recolouring(frames: u32, moves: u32, page: Page) -> Recolour {
+    let (board, table) = lower_half(frames, moves, page, [0; 3]);
+    Recolour::new(board, table, 0xFF00, moves)
 }
 
 /// The same where no frame of the upper half is left over, and some of its colours have frames already.
 fn uneven_recolouring(frames: u32) -> Recolour {
-    let spare = frames / 2 - moving(frames);
+    let moves = moving(frames);
+    let spare = frames / 2 - moves;
     let [half, third] = [spare / 2, spare / 3];
-    let (board, table) = lower_half(frames, [half, third, spare - half - third]);
-    Recolour::new(board, table, 0xFF00, moving(frames))
+    let (board, table) = lower_half(frames, moves, RISING, [half, third, spare - half - third]);
+    Recolour::new(board, table, 0xFF00, moves)
+}
+
+/// A recolouring to the upper half, where all those frames lie already.
+fn idle_recolouring(frames: u32) -> Recolour {
+    let (board, mut table) = lower_half(frames, moving(frames), RISING, [0; 3]);
+    // from a frame to the one whose colour is eight higher
+    table.rotate_right(8);
+    Recolour::new(board, table, 0xFF00, 0)
 }
 
 fn task(vcpu: u32, period: u32, deadline: u32, set: u32, cost: u32) -> Vec<u32> {
@@ -254,7 +276,7 @@ fn frames(table: Vec<u16>, page: u32) -> Frames {
 /// The frame calls on F frames.
 fn frame_cases(f: u32) -> Vec<Named> {
     let (first, last) = (4, f - 9);
-    let (faults, moves) = (f * 125 / 512, moving(f));
+    let faults = f * 125 / 512;
     let boot = Boot {
         frames: frames(held(f, 0), 0),
         faults,
@@ -264,7 +286,7 @@ fn frame_cases(f: u32) -> Vec<Named> {
     let mapped = |page| MappedFault(frames(held(f, f), page));
     let fault = |table| Fault(frames(table, UNMAPPED));
     let size = format!(", F = {f}");
-    vec![
+    let mut cases = vec![
         named("look, page in one of the first frames", &size, look(first)),
         named("look, page in one of the last frames", &size, look(last)),
         named("fault, empty table", &size, fault(held(f, 0))),
@@ -278,17 +300,35 @@ fn frame_cases(f: u32) -> Vec<Named> {
         ),
         named("fault, page in one of the last frames", &size, mapped(last)),
         named("boot", &format!(" of {faults} faults{size}"), boot),
-        named(
-            "recolour",
-            &format!(" of {moves} frames{size}"),
-            recolouring(f),
-        ),
-        named(
-            "uneven recolour",
-            &format!(" of {moves} frames{size}"),
-            uneven_recolouring(f),
-        ),
-    ]
+    ];
+    cases.extend(recolour_cases(f, "", |case| case));
+    cases
+}
+
+/// The recolourings of F frames, against this baseline.
+fn recolour_cases(f: u32, by: &str, against: fn(Recolour) -> Recolour) -> Vec<Named> {
+    let moves = moving(f);
+    let all = |page| recolouring(f, moves, page);
+    let size = format!(", F = {f}{by}");
+    let sizes = format!(" of {moves} frames{size}");
+    let listed = format!(", {moves} frames{size}");
+    let cases = [
+        ("recolour", &sizes, all(RISING)),
+        ("recolour, falling pages", &listed, all(FALLING)),
+        ("recolour, scattered pages", &listed, all(SCATTERED)),
+        ("uneven recolour", &sizes, uneven_recolouring(f)),
+        ("recolour of 10 frames", &size, recolouring(f, 10, RISING)),
+        ("recolour that moves nothing", &size, idle_recolouring(f)),
+    ];
+    let cases = cases.into_iter();
+    cases
+        .map(|(kind, size, case)| named(kind, size, against(case)))
+        .collect()
+}
+
+/// Recolouring at full size against a baseline that sorts.
+pub fn by_sort() -> Vec<Named> {
+    recolour_cases(4096, ", by sort_by_key", Recolour::by_sort)
 }
 
 fn plan_cases(tasks: u32) -> Vec<Named> {
@@ -365,6 +405,7 @@ pub fn all() -> impl Iterator<Item = Named> {
     let by_rounds = by_rounds().into_iter().map(|(named, _)| named);
     full_size()
         .into_iter()
+        .chain(by_sort())
         .chain(grown.flatten())
         .chain(by_rounds)
 }

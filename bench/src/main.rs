@@ -9,7 +9,7 @@ mod ours;
 
 use std::process::ExitCode;
 
-use inputs::{all, by_rounds, full_size, growth, Growth, Named};
+use inputs::{all, by_rounds, by_sort, full_size, growth, Growth, Named};
 use measure::Pair;
 
 const USAGE: &str = "usage: bench check | times | instructions | all
@@ -174,6 +174,9 @@ fn report(whats: &[What]) -> bool {
                 plan is refused with 22 at its last row, after that many rounds.";
     let text = format!("{board} {plan}");
     table("Calls at full size", &text, full_size(), whats);
+    let sort = "The same recolourings with a baseline that lists the triples as it moves the frames, and then sorts \
+                them with `sort_by_key`.";
+    table("Recolouring against a sort", sort, by_sort(), whats);
     rounds_table(whats);
     for what in whats {
         match what {

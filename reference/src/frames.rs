@@ -1,6 +1,6 @@
 //! The board, the frame table and its five calls: document 01, "Board and frame table", with refusals 2
-//! to 14 of "Refusals in the order tested", and the choice of a free frame of document 02, No. 7. Each call
-//! is defined for every board, table and number.
+//! to 14 of "Refusals in the order tested", the choice of a free frame of document 02, No. 7, and the order of
+//! moves of No. 4. Each call is defined for every board, table and number.
 
 use std::collections::VecDeque;
 use std::fmt;
@@ -213,7 +213,8 @@ pub fn colours(board: &Board, table: &[u16], domain: u32) -> Reply<Answer> {
 }
 
 /// Document 02, No. 7: "In recolouring, the targets are chosen so one by one in the new set, counting frames
-/// already moved; frames vacated are still not used." The frames to move go in ascending order.
+/// already moved; frames vacated are still not used." The frames to move go in ascending order. No. 4: "The
+/// triples shall stand by page, equal pages by old frame. Which frame goes where does not change."
 pub fn recolour(
     board: &mut Board,
     table: &mut [u16],
@@ -239,14 +240,18 @@ pub fn recolour(
     if moves.len() < 3 * leaving.len() {
         return Reply::refused(13);
     }
-    for (place, (old, page)) in leaving.iter().enumerate() {
+    let mut triples = Vec::new();
+    for (old, page) in leaving {
         let new = colours.take(set).expect("12 left enough free frames");
-        table[new] = table[*old];
-        table[*old] = FREE;
-        moves[3 * place..][..3].copy_from_slice(&[*page, *old as u16, new as u16]);
+        table[new] = table[old];
+        table[old] = FREE;
+        triples.push([page, old as u16, new as u16]);
     }
+    // after all targets are chosen, so that the order has no part in the choice
+    triples.sort_by_key(|[page, old, _]| (*page, *old));
+    moves[..3 * triples.len()].copy_from_slice(triples.as_flattened());
     board.active[domain as usize] = set;
-    Reply::Answer(Answer::Moved(leaving.len()))
+    Reply::Answer(Answer::Moved(triples.len()))
 }
 
 /// One of the five calls with its arguments. `room` is the length of the lent move list.
@@ -417,7 +422,8 @@ mod tests {
     /// The new set has colours 1 and 2. In colour 1 the domain holds frames 1 and 5, and 9 is free; in colour 2
     /// it holds frame 10, and 2 and 6 are free. Frames 0, 3 and 8 have to move. Frame 0: 2 in colour 1 and 1 in
     /// colour 2, so it goes to colour 2, frame 2. Frame 3: 2 and 2, so it goes to the lower colour, which has
-    /// frame 9 alone. Frame 8: 3 and 2, so it goes to frame 6. Lowest first, the targets were 2, 6, 9.
+    /// frame 9 alone. Frame 8: 3 and 2, so it goes to frame 6. Lowest first, the targets were 2, 6, 9. Frames 0,
+    /// 3 and 8 are of the pages 7, 5 and 6.
     #[test]
     fn crowded_recolouring() {
         let mut board = single(4, 12, 0xF);
@@ -427,7 +433,7 @@ mod tests {
             recolour(&mut board, &mut table, 0, 0x6, &mut moves),
             Reply::Answer(Answer::Moved(3))
         );
-        assert_eq!(moves, [7, 0, 2, 5, 3, 9, 6, 8, 6]);
+        assert_eq!(moves, [5, 3, 9, 6, 8, 6, 7, 0, 2]);
         assert_eq!(table, [0, 1, 8, 0, 0, 2, 7, RESERVED, 0, 6, 3, 0]);
         assert_eq!(board.active[0], 0x6);
     }
@@ -486,6 +492,32 @@ mod tests {
         );
         assert_eq!(moves, [1, 2, 1, 2, 6, 0, 3, 10, 8, 4, 14, 12]);
         let after = [3, 2, 0, 0, 1, full, 0, 0, 4, full, 0, 0, 5, full, 0, 0];
+        assert_eq!(table, after);
+    }
+
+    /// The new set has colours 1 and 2. Colour 1 has the free frames 1 and 5, colour 2 the free frames 10 and 14,
+    /// and the domain holds frame 9 there. Frames 0, 3, 4 and 7 have to move, of the pages 4,095, 4,095, 0 and 0.
+    /// Frame 0: 1 in colour 1 and 0 in colour 2, so it goes to frame 10. Frame 3: 1 and 1, frame 1. Frame 4: 2 and
+    /// 1, frame 14. Frame 7: colour 2 has none left, frame 5. Page 0 goes first, and each page's two stand by old
+    /// frame, though their new frames fall.
+    #[test]
+    fn equal_pages_stand_by_old_frame() {
+        let mut board = single(4, 16, 0xF);
+        let full = RESERVED;
+        let mut table = vec![
+            4096, 0, full, 4096, 1, 0, 4097, 1, 0, 4096, 0, full, 0, full, 0, 32_769,
+        ];
+        let mut moves = [9; 14];
+        assert_eq!(
+            recolour(&mut board, &mut table, 0, 0x6, &mut moves),
+            Reply::Answer(Answer::Moved(4))
+        );
+        let triples = [0, 4, 14, 0, 7, 5, 4095, 0, 10, 4095, 3, 1];
+        assert_eq!(moves[..12], triples);
+        assert_eq!(moves[12..], [9, 9]);
+        let after = [
+            0, 4096, full, 0, 0, 1, 4097, 0, 0, 4096, 4096, full, 0, full, 1, 32_769,
+        ];
         assert_eq!(table, after);
     }
 

@@ -1,8 +1,8 @@
-//! The domain rule, run on random histories: document 01, "The words of demand 3". Two histories that
-//! leave a domain the same colours and map, its own calls replayed alone, must give it the same answers
-//! ever after, whatever the others do; two that do not are told apart by one call. And what a planner relies
-//! on of document 02, No. 7: as long as a domain neither releases nor recolours, its frames lie evenly over
-//! its active colours, as far as these have free frames.
+//! The domain rule, run on random histories: document 01, "The words of demand 3", with the move list as it is
+//! written (document 02, No. 4). Two histories that leave a domain the same colours and map, its own calls
+//! replayed alone, must give it the same answers and lists ever after, whatever the others do; two that do not
+//! are told apart by one call. And what a planner relies on of document 02, No. 7: as long as a domain neither
+//! releases nor recolours, its frames lie evenly over its active colours, as far as these have free frames.
 
 use crate::boards::{accepted, any_domain, any_page, any_set, empty_table, part_of};
 use crate::cache::colours;
@@ -10,11 +10,11 @@ use crate::frames::{word, Answer, Call, State, FREE, PAGES, RESERVED};
 use crate::random::Random;
 use crate::reply::Reply;
 
-/// What a call answers its domain, with the moves in ascending order, since theirs is left open.
+/// What a call tells its domain: the reply, and the move list that it was lent as it stands afterwards.
 #[derive(Clone, Debug, PartialEq, Eq)]
 struct Answered {
     reply: Reply<Answer>,
-    moves: Vec<[u16; 3]>,
+    list: Vec<u16>,
 }
 
 /// How calls run: as in the model, or in a test as in a loader that does wrong.
@@ -24,18 +24,11 @@ fn step(state: &mut State, call: &Call) -> Answered {
     answered(call, |list| state.call(call, list))
 }
 
-/// What a call is answered that runs so, with a move list.
+/// What a call is answered that runs so, with a move list of its own.
 fn answered(call: &Call, run: impl FnOnce(&mut [u16]) -> Reply<Answer>) -> Answered {
-    let mut list = vec![0; call.room()];
+    let mut list = vec![7; call.room()];
     let reply = run(&mut list);
-    let count = match reply {
-        Reply::Answer(Answer::Moved(count)) => count,
-        _ => 0,
-    };
-    let triples = list.chunks_exact(3).take(count);
-    let mut moves: Vec<[u16; 3]> = triples.map(|t| [t[0], t[1], t[2]]).collect();
-    moves.sort();
-    Answered { reply, moves }
+    Answered { reply, list }
 }
 
 #[derive(Clone, Copy, Debug, Default)]
@@ -293,7 +286,11 @@ impl Trial {
     /// domain the same answers.
     fn same_later(&self, random: &mut Random, domain: u32, h: &State, k: &State) -> bool {
         let calls = (0..1 + random.below(8)).map(|_| self.call_of(random, domain));
-        let calls: Vec<Call> = calls.collect();
+        let mut calls: Vec<Call> = calls.collect();
+        // at the end one that lists several moves, which is rare among the others
+        let set = part_of(random, self.start.board.grants[domain as usize]);
+        let room = 60;
+        calls.push(Call::Recolour { domain, set, room });
         let l = self.woven(random, domain, &calls);
         let m = self.woven(random, domain, &calls);
         let kept = [(h, &l), (k, &m)]
@@ -489,7 +486,7 @@ mod tests {
         if holders.any(|holder| Some(holder) != first) {
             return Answered {
                 reply: Reply::refused(12),
-                moves: Vec::new(),
+                list: vec![7; call.room()],
             };
         }
         step(state, call)
@@ -500,6 +497,44 @@ mod tests {
         let mut answered = step(state, call);
         if let Reply::Refused { number: 12, row } = &mut answered.reply {
             *row = state.table.iter().filter(|word| **word == FREE).count() as u32;
+        }
+        answered
+    }
+
+    /// A loader that counts the frames of all domains outside the new set, page by page, and puts each triple
+    /// where these counts say, as far as the list goes.
+    fn places_by_all_domains(state: &mut State, call: &Call) -> Answered {
+        let before = state.table.clone();
+        let mut told = step(state, call);
+        if let (Reply::Answer(Answer::Moved(count)), Call::Recolour { set, .. }) =
+            (told.reply, *call)
+        {
+            let outside = |frame: usize| set >> (frame as u32 % state.board.colours) & 1 == 0;
+            let held = (0..before.len())
+                .filter(|frame| outside(*frame) && ![FREE, RESERVED].contains(&before[*frame]));
+            let pages: Vec<(u16, u16)> = held
+                .map(|frame| ((before[frame] - 1) % 4096, frame as u16))
+                .collect();
+            let right = std::mem::replace(&mut told.list, vec![7; call.room()]);
+            for triple in right.chunks_exact(3).take(count) {
+                let lower = |at: &&(u16, u16)| **at < (triple[0], triple[1]);
+                let place = 3 * pages.iter().filter(lower).count();
+                if let Some(there) = told.list.get_mut(place..place + 3) {
+                    there.copy_from_slice(triple);
+                }
+            }
+        }
+        told
+    }
+
+    /// A loader that leaves in the rest of the move list how many frames of the table are free.
+    fn counts_in_the_rest(state: &mut State, call: &Call) -> Answered {
+        let free = state.table.iter().filter(|word| **word == FREE).count() as u16;
+        let mut answered = step(state, call);
+        if let Reply::Answer(Answer::Moved(count)) = answered.reply {
+            if let Some(word) = answered.list.get_mut(3 * count) {
+                *word = free;
+            }
         }
         answered
     }
@@ -540,6 +575,8 @@ mod tests {
             common_turn,
             refuses_beside_others,
             tells_free_frames,
+            places_by_all_domains,
+            counts_in_the_rest,
         ] {
             let tally = check_step(crate::SEED, 400, wrong);
             assert!(tally.violations > 20, "{tally:?}");

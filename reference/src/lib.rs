@@ -8,6 +8,7 @@ pub mod compare;
 pub mod frames;
 pub mod history;
 pub mod inputs;
+pub mod orders;
 pub mod pipe;
 pub mod plans;
 pub mod random;

@@ -1,6 +1,6 @@
 //! Document 01's functions, as document 02 has changed them, in plain Rust, by the methods of the proved
-//! library and with all its refusals, to measure that library against. Each function offered is kept apart
-//! from its caller, as a function of a linked library is.
+//! library and with all its refusals, to measure that library against; recolouring by a sort as well. Each
+//! function offered is kept apart from its caller, as a function of a linked library is.
 
 mod board;
 mod cache;
@@ -9,7 +9,7 @@ mod plan;
 
 pub use board::Board;
 pub use cache::{bleach, layout};
-pub use frames::{fault, look, recolour, Faulted, Looked};
+pub use frames::{fault, look, recolour, recolour_by_sort, Faulted, Looked};
 pub use plan::admit_plan;
 
 #[derive(Clone, Copy, Debug, PartialEq, Eq)]

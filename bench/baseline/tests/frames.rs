@@ -1,6 +1,7 @@
-//! The frame calls against the separate tool's model, on random boards and crowded tables of all lengths.
+//! The frame calls against the separate tool's model, on random boards and crowded tables of all lengths. Both ways
+//! of recolouring leave the same.
 
-use baseline::{fault, look, recolour, Board, Faulted, Looked, Refusal};
+use baseline::{fault, look, recolour, recolour_by_sort, Board, Faulted, Looked, Refusal};
 use reference::boards::{accepted, any_domain, any_page, any_set, crowded_table};
 use reference::frames::{Answer, Call, State, PAGES};
 use reference::random::Random;
@@ -40,7 +41,16 @@ fn run(
             }))
         }
         Call::Recolour { domain, set, .. } => {
+            let (mut board_too, mut table_too, mut moves_too) =
+                (*board, table.to_vec(), moves.to_vec());
             let count = recolour(board, table, domain, set, moves);
+            let by_sort =
+                recolour_by_sort(&mut board_too, &mut table_too, domain, set, &mut moves_too);
+            assert_eq!(count, by_sort);
+            assert_eq!(
+                (*board, &*table, &*moves),
+                (board_too, &*table_too, &*moves_too)
+            );
             Some(count.map(Answer::Moved))
         }
         Call::Release { .. } | Call::Colours { .. } => None,

@@ -221,21 +221,22 @@ pub fn colours(board: &Board, table: &[u16], domain: u32) -> Result<u32, Refusal
 
 /// Makes the set active: the domain's frames outside it, ascending, go one by one to free frames inside
 /// it, each chosen as [`fault`] chooses, with the frames that were moved before counted. The answer is the
-/// count of moves; the move list gets a page, an old and a new frame for each, and its rest does not
-/// change. The order of the moves is left open. Refusals 2 to 9, 12, 13.
+/// count of moves; the move list gets a page, an old and a new frame for each, by ascending page and, for
+/// equal pages, by ascending old frame, and its rest does not change. Refusals 2 to 9, 12, 13.
 ///
 /// ```
 /// use juzvanec::{recolour, Board};
 ///
 /// let mut board = Board::new(4, 8, &[0x3, 0xC]);
-/// let mut table = [10, 2, 4097, 0, 0, 0, 0, 0];
+/// // domain 0 has page 2 in frame 0 and page 1 in frame 4
+/// let mut table = [3, 0, 4097, 0, 2, 0, 0, 0];
 /// let mut moves = [0; 12];
-/// let count = recolour(&mut board, &mut table, 0, 0x1, &mut moves).unwrap();
+/// let count = recolour(&mut board, &mut table, 0, 0x2, &mut moves).unwrap();
 /// for triple in moves[..3 * count].chunks_exact(3) {
 ///     println!("page {} goes from frame {} to frame {}", triple[0], triple[1], triple[2]);
 /// }
-/// assert_eq!(moves[..3 * count], [1, 1, 4]);
-/// assert_eq!(board.active[0], 0x1);
+/// assert_eq!(moves[..3 * count], [1, 4, 5, 2, 0, 1]);
+/// assert_eq!(board.active[0], 0x2);
 /// ```
 #[inline]
 pub fn recolour(

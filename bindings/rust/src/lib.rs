@@ -40,7 +40,7 @@ pub use text::Verdict;
 
 /// The number of the C interface that this package is for. An archive of another number makes every
 /// function panic; [`raw::juzvanec_interface`] tells that of the archive.
-pub const INTERFACE: u32 = 4;
+pub const INTERFACE: u32 = 5;
 
 /// The most colours of a cache.
 pub const COLOURS: usize = 16;

@@ -1,5 +1,6 @@
 //! Thousands of random calls through the binding, each held against plain properties: refusals change
-//! nothing, faults and looks agree, no guest gets another's colours, moves account for the table.
+//! nothing, faults and looks agree, no guest gets another's colours, moves account for the table and stand in
+//! page order.
 
 use std::collections::BTreeSet;
 
@@ -111,9 +112,11 @@ impl Machine {
         }
     }
 
-    /// The triples lead from the table before to the table now.
+    /// The triples lead from the table before to the table now, and stand by page, equal pages by old frame.
     fn moved(&self, domain: u32, set: u32, mut table: Vec<u16>, triples: &[u16]) {
         let mut touched = BTreeSet::new();
+        let by_page = |triple: &[u16]| (triple[0], triple[1]);
+        assert!(triples.chunks_exact(MOVE_WORDS).is_sorted_by_key(by_page));
         for triple in triples.chunks_exact(MOVE_WORDS) {
             let [page, old, new] = [triple[0], triple[1], triple[2]].map(usize::from);
             assert!(touched.insert(old) && touched.insert(new));

@@ -76,7 +76,7 @@ pub still-free : (free : ℕ → Bool) (f g : ℕ) → (g ≡ f → ⊥) → fre
 still-free free f g other = rw (ne-eqb g f other) (sym (and-true (free g)))
 
 -- as many frames as are free can be taken, and each is free
-each-free : (n m : ℕ) → 0 < n → (all : ℕ → Bool) (k : ℕ) (free held : ℕ → Bool) → ((f : ℕ) → free f ≡ true → all f ≡ true)
+pub each-free : (n m : ℕ) → 0 < n → (all : ℕ → Bool) (k : ℕ) (free held : ℕ → Bool) → ((f : ℕ) → free f ≡ true → all f ≡ true)
     → k ≤ length (keep free (upto m)) → Each (λ (f : ℕ). (f < m) × (all f ≡ true)) (taken k n m free held)
 unfolding taken
 each-free n m coloured all zero free held still l = tt
@@ -92,6 +92,11 @@ pub taken-count : (k n m : ℕ) (free held : ℕ → Bool) → length (taken k n
 unfolding taken
 taken-count zero n m free held = refl
 taken-count (suc k) n m free held = ap suc (taken-count k n m _ _)
+
+-- a list with members is not empty
+pub some-member : (xs : List ℕ) → 0 < length xs → isEmpty xs ≡ false
+some-member [] h = absurd (lt-irrefl 0 h)
+some-member (x ∷ xs) h = refl
 
 pub record Chosen (s : State) (c f : ℕ) : Type 0 where
   pub below : f < s .board .frames
@@ -162,17 +167,12 @@ module _ (s : State) (d c : ℕ) (coloured : 0 < s .board .colours) where
   abbrev held : ℕ → Bool
   held = isHeld (s .table) d
 
-  some-taken : (k : ℕ) → 0 < k → isEmpty (taken k n m free held) ≡ false
-  unfolding taken
-  some-taken zero h = absurd (lt-irrefl 0 h)
-  some-taken (suc k) h = refl
-
   pub next-some : nextFrame n m free held < m → isEmpty (choices s d c) ≡ false
   unfolding choices frees framesWith nextFrame
   next-some h =
       let f : ℕ = nextFrame n m free held in
       let e = and-both (free f) (eqb (f % n) (nextColour n m free held)) (found (ofColour n free (nextColour n m free held)) 0 m h .passes) .0 in
-      some-taken (length (frees s c)) (some-kept free m f h e)
+      some-member (choices s d c) (omega (arith, taken-count (length (frees s c)) n m free held, some-kept free m f h e))
 
   pub next-first : nextFrame n m free held < m → headOr 0 (choices s d c) ≡ nextFrame n m free held
   unfolding choices
@@ -198,7 +198,7 @@ module _ (n m : ℕ) where
         let low = lowest-counts n m free x (ltb-true 0 (inColour n m free x) e) in
         rw (same-count n m held held′ x (λ f l z. own f _ l (low .below) (low .passes) (z ∙ sym (low .colour)))))
 
-    pub same-frame : nextFrame n m free held ≡ nextFrame n m free′ held′
+    same-frame : nextFrame n m free held ≡ nextFrame n m free′ held′
     unfolding nextFrame
     same-frame =
         same-lowest (ofColour n free (nextColour n m free held)) (ofColour n free′ (nextColour n m free held)) m (λ f l. rw (same f l))

@@ -124,7 +124,7 @@ module _ (n d : ℕ) (t : List ℕ) (c : ℕ) where
 
 -- The lanes give it
 module _ (n d : ℕ) (t : List ℕ) (c : ℕ) (ok : isColourCount n ≡ true) where
-  pub colour-is : colourBy n (length t) c (held n d t ok) (free n d t ok) ≡ next n d t c
+  colour-is : colourBy n (length t) c (held n d t ok) (free n d t ok) ≡ next n d t c
   unfolding colourBy nextColour
   colour-is =
       same-fewest _ _ _ _ n

@@ -1,9 +1,16 @@
--- The laws of the choice of a free frame, of the replies of calls, and of the one pass of a fault.
+-- The laws of the choice of a free frame, of the replies of calls, of the moves of a recolouring and their list, and of the one pass of a fault.
 pub mod InColour
 pub mod Choice
 pub mod OneByOne
 pub mod Settled
 pub mod NewFrame
+pub mod Recoloured
 pub mod Targets
+pub mod Moves
+pub mod Places
+pub mod PageOrder
+pub mod MoveList
+pub mod AnyOrder
+pub mod Placed
 pub mod Lanes
 pub mod OnePass

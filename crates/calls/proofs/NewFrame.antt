@@ -34,4 +34,4 @@ new-first s d p f e =
     let r = settled-answers s done (tests ++ own) (New f) (sym (ap (λ o. o .reply) (ten-first s d p own done)) ∙ e) in
     let fine = ten-accepted (s .board) (length (s .table)) d p (passed-earlier tests own (r .0)) .0 in
     let new = first-new s (wordOf d p) f ms gs (r .1) (passed-first _ _ (passed-later tests own (r .0)) .0) in
-    rw (← (new .0)) (first s d (activeSet (s .board) d) (omega (arith, count-range (s .board .colours) (fine .passed .count))) (new .1))
+    rw (← (new .0)) (first s d (activeSet (s .board) d) (count-range (s .board .colours) (fine .passed .count) .0) (new .1))

@@ -62,7 +62,7 @@ module _ (s : State) (d c w : ℕ) (coloured : 0 < s .board .colours) (long : le
       one-more (isFree t′ n c) (isFree t n c) g (λ f other. rw (there f (ne-eqb f g other))) not-free was-free m 0 (omega arith)
       (omega (arith, g-first .choice .below))
 
-  pub one-by-one : choices s d c ≡ g ∷ choices (written s g w) d c
+  one-by-one : choices s d c ≡ g ∷ choices (written s g w) d c
   unfolding choices taken
   one-by-one =
       let is : nextFrame n m (isFree t n c) (isHeld t d) ≡ g = sym (first-taken (length (frees s c)) n m (isFree t n c) (isHeld t d) some) in

@@ -42,7 +42,7 @@ module _ (b : Board) (d p : ℕ) (t : List ℕ) (ok : passes (pageTests b (lengt
   fine = ten-accepted b (length t) d p ok .0
 
   coloured : 0 < b .colours
-  coloured = omega (arith, count-range (b .colours) (fine .passed .count))
+  coloured = count-range (b .colours) (fine .passed .count) .0
 
   abbrev holds : ℕ → Bool
   holds = hasWord t w
@@ -133,7 +133,7 @@ module _ (b : Board) (d p : ℕ) (t : List ℕ) (ok : passes (pageTests b (lengt
   unfolding frameFor
   frame-for = rw (← (fine .bounds .long)) (frame-is (b .colours) d t (activeSet b d) (fine .passed .count))
 
-  pub whole-pass : given end ≡ fault s d p
+  whole-pass : given end ≡ fault s d p
   whole-pass =
       let low : ℕ = lowest holds (length t) in
       below-or-not low (length t)

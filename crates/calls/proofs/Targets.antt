@@ -3,35 +3,27 @@
 use Prim.Native.Nat.{ℕ, zero, suc, _<_, _≤_}
 use native.Mathlib.Nat.{le-refl, lt-irrefl}
 use native.Mathlib.Omega.{arith}
-use mathlib.Core.Bool.{true, false, true≢false}
-use mathlib.Core.List.{List, [], _∷_, _++_}
+use mathlib.Core.Bool.{false, true≢false}
+use mathlib.Core.List.{List, [], _∷_}
 use mathlib.Core.Path.{_≡_, refl, sym, ap, _∙_}
 use lib.ListN.{length, set, length-set}
 use lib.Seq.{getD-set-other}
-use borrow.Author.Tests.{ltb-false, not-true}
+use borrow.Author.Tests.{not-true}
 use Rattle.lists.specs.Range.{from, keep, isEmpty, headOr}
 use Rattle.lists.proofs.Split.{cases, and-both}
-use Rattle.refusal.specs.Reply.{Test, unless, passes}
-use Rattle.refusal.proofs.Replies.{passed-first, passed-answers}
-use Rattle.refusal.proofs.Order.{passed-earlier, passed-later}
-use Rattle.colours.proofs.Ranges.{count-range}
+use Rattle.refusal.specs.Reply.{Answers}
 use Rattle.board.specs.declared.Board.{Board}
-use Rattle.board.specs.Tests.{callTests, callReply}
-use Rattle.board.proofs.Passed.{accepted}
 use Rattle.calls.specs.Table.{State, stateOf, word, inSet, isHeld, isStray, framesWith, strays}
 use Rattle.calls.specs.Choices.{choices}
-use Rattle.calls.specs.Calls.{Move, Done, settle, called, pairUp, move, recolourTests, recolour}
-use Rattle.calls.proofs.Choice.{First, first}
+use Rattle.calls.specs.Calls.{Moved, Move, pairUp, pairs, move, recolour}
+use Rattle.calls.proofs.Choice.{First, first, some-member}
 use Rattle.calls.proofs.OneByOne.{move-by-move}
+use Rattle.calls.proofs.Recoloured.{recoloured}
 
 abbrev pub EachFirst : State → ℕ → ℕ → List Move → Type 0
 EachFirst s d c [] = Unit {0}
 EachFirst s d c (m ∷ ms) =
     First s d c (m .target) × (inSet (s .board .colours) c (m .source) ≡ false) × EachFirst (stateOf (s .board) (move (s .table) m)) d c ms
-
-some-member : (xs : List ℕ) → 0 < length xs → isEmpty xs ≡ false
-some-member [] h = absurd (lt-irrefl 0 h)
-some-member (x ∷ xs) h = refl
 
 -- The moves of the strays from frame i on: the words outside the set are still those of table t₀ there
 module _ (b : Board) (d c : ℕ) (coloured : 0 < b .colours) (t₀ : List ℕ) where
@@ -61,21 +53,10 @@ module _ (b : Board) (d c : ℕ) (coloured : 0 < b .colours) (t₀ : List ℕ) w
       rw (e, next) (first s d c coloured some, out, rest))
       (λ e. rw e (each-first k (suc i) t long (λ f l o. same f (omega arith) o) (rw e at room)))
 
--- a refusal moves nothing
-settled-moves : (s : State) (done : Done) (P : List Move → Type 0) (ts : List Test) → P [] → (passes ts ≡ true → P (done .moves))
-    → P (settle s (unless ts done) .moves)
-unfolding unless passes settle
-settled-moves s done P [] none all = all refl
-settled-moves s done P (t ∷ ts) none all = cases (t .fails) (λ f. rw f none) (λ f. rw f (settled-moves s done P ts none (rw f at all)))
-
-pub each-target-first : (s : State) (d c : ℕ) (lent : List ℕ) → EachFirst s d c (recolour s d c lent .moves)
-unfolding recolour called strays framesWith callReply
-each-target-first s d c lent =
-    let eight : List Test = callTests (s .board) (length (s .table)) d in
-    let own : List Test = recolourTests s d c (length lent) in
-    settled-moves s _ (EachFirst s d c) (eight ++ own) tt
-    (λ ok.
-    let fine = accepted (s .board) (length (s .table)) d (passed-answers eight (tt {0}) (passed-earlier eight own ok)) in
-    let room = ltb-false _ _ (passed-first _ _ (passed-first _ _ (passed-later eight own ok) .1) .0) in
-    let coloured : 0 < s .board .colours = omega (arith, count-range (s .board .colours) (fine .passed .count)) in
-    each-first (s .board) d c coloured (s .table) (s .board .frames) 0 (s .table) (fine .bounds .long) (λ f l o. refl) room)
+-- of a recolouring that is done
+pub each-target-first : (s : State) (d c : ℕ) (lent : List ℕ) (n : ℕ) → recolour s d c lent .reply ≡ Answers (Moved n)
+    → EachFirst s d c (pairs s d c)
+unfolding strays framesWith
+each-target-first s d c lent n e =
+    let r = recoloured s d c lent n e in
+    each-first (s .board) d c (r .coloured) (s .table) (s .board .frames) 0 (s .table) (r .fine .bounds .long) (λ f l o. refl) (r .room)

@@ -1,10 +1,11 @@
--- The five calls, for every board, table and argument: reply, moves, board and table afterwards. Document 01, refusals 2 to 14.
+-- The five calls, for every board, table and argument: reply, moves, board and table afterwards. Document 01, refusals 2 to 14; the order of the
+-- moves is document 02, No. 4.
 use Prim.Native.Nat.{ℕ, _*_}
-use mathlib.Core.Bool.{_&&_}
-use mathlib.Core.List.{List, [], _∷_, _++_, List·Permᴰ}
-use mathlib.Core.Path.{_≡_}
-use lib.Dec.{ltb}
+use mathlib.Core.Bool.{Bool, _&&_, _||_}
+use mathlib.Core.List.{List, [], _∷_, _++_}
+use lib.Dec.{eqb, ltb}
 use lib.ListN.{length, drop, set}
+use Rattle.lists.specs.Choice.{if_then_else_}
 use Rattle.lists.specs.Range.{headOr, isEmpty}
 use Rattle.refusal.specs.Reply.{Reply, Answers, Refuses, Test, test, unless}
 use Rattle.board.specs.declared.Board.{Board}
@@ -106,6 +107,24 @@ pairUp d t [] gs = []
 pairUp d t (v ∷ vs) [] = []
 pairUp d t (v ∷ vs) (g ∷ gs) = record { page = pageFor d (word t v); source = v; target = g } ∷ pairUp d t vs gs
 
+-- the moves of a recolouring as they are chosen, by old frame
+abbrev pub pairs : State → ℕ → ℕ → List Move
+pairs s d c = pairUp d (s .table) (strays s d c) (choices s d c)
+
+-- the order of the move list: by page, equal pages by old frame
+abbrev pub earlier : Move → Move → Bool
+earlier a b = ltb (a .page) (b .page) || (eqb (a .page) (b .page) && ltb (a .source) (b .source))
+
+-- a move goes in behind the moves that are earlier
+unfoldable pub insert : Move → List Move → List Move
+insert m [] = m ∷ []
+insert m (a ∷ ms) = if earlier a m then a ∷ insert m ms else m ∷ a ∷ ms
+
+-- moves in that order
+unfoldable pub inOrder : List Move → List Move
+inOrder [] = []
+inOrder (m ∷ ms) = insert m (inOrder ms)
+
 -- the word goes to the new frame, and the old one becomes free
 abbrev pub move : List ℕ → Move → List ℕ
 move t m = set (set t (m .source) 0) (m .target) (word t (m .source))
@@ -129,12 +148,11 @@ recolourTests s d c room =
 
 unfoldable pub recolour : State → ℕ → ℕ → List ℕ → Outcome
 recolour s d c lent =
-    let ms = pairUp d (s .table) (strays s d c) (choices s d c) in
     called s d (recolourTests s d c (length lent))
     (record {
       answer = Moved (length (strays s d c));
-      moves = ms;
-      next = record { board = withActive (s .board) d c; table = moveAll (s .table) ms };
+      moves = inOrder (pairs s d c);
+      next = record { board = withActive (s .board) d c; table = moveAll (s .table) (pairs s d c) };
     })
 
 -- the words of the triples (page, old frame, new frame)
@@ -142,8 +160,6 @@ unfoldable pub triples : List Move → List ℕ
 triples [] = []
 triples (m ∷ ms) = m .page ∷ m .source ∷ m .target ∷ triples ms
 
--- the lent move list before a call with these moves, and after it: the moves, each once, in an order that is left open, and the rest as it was
-pub record Listed (moves : List Move) (before after : List ℕ) : Type 0 where
-  pub order : List Move
-  pub each-once : List·Permᴰ order moves
-  pub words : after ≡ triples order ++ drop (3 * length order) before
+-- a lent move list after a call with these moves: their triples, and the rest as it was
+abbrev pub listed : List Move → List ℕ → List ℕ
+listed ms lent = triples ms ++ drop (3 * length ms) lent

@@ -17,7 +17,7 @@ use Rattle.colours.proofs.Theorems.{consecutive-colours}
 use Rattle.board.specs.Tests.{domainTests, boardTests, callTests}
 use Rattle.calls.specs.Table.{State, stateOf, framesWith, mappedTo, frees}
 use Rattle.calls.specs.Choices.{inColour, nextColour, nextFrame, taken, choices}
-use Rattle.calls.specs.Calls.{Move, settle, called, fault, release, recolour}
+use Rattle.calls.specs.Calls.{Move, settle, called, fault, release, pairs}
 use Rattle.calls.proofs.Choice.{First}
 use Rattle.calls.proofs.NewFrame.{new-first}
 use Rattle.calls.proofs.Targets.{EachFirst, each-target-first}
@@ -90,7 +90,7 @@ pub even-use-claims : EvenUseClaims
 even-use-claims =
     record {
       fault-takes = λ s d p f e. by-the-rule s d _ f (new-first s d p f e);
-      recolouring-takes = λ s d c lent. each-by-the-rule s d c (recolour s d c lent .moves) (each-target-first s d c lent);
+      recolouring-takes = λ s d c lent n e. each-by-the-rule s d c (pairs s d c) (each-target-first s d c lent n e);
       even-use = even-use;
       accepted = accepted;
       empty = empty;

@@ -1,7 +1,8 @@
--- The proofs of the claims: the examples of the domain rule and of even use, the colours reloaded, plans that reach the bound on rounds, and every claim
--- from the theorem of its own crate.
+-- The proofs of the claims: the examples of the domain rule and of even use, the order of moves, the colours reloaded, plans that reach the bound on
+-- rounds, and every claim from the theorem of its own crate.
 pub mod Looks
 pub mod EvenUse
+pub mod PageOrder
 pub mod Reload
 pub mod Rounds
 pub mod Proved

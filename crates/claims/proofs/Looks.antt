@@ -2,7 +2,7 @@
 use Prim.Native.Nat.{ℕ}
 use native.Mathlib.Omega.{arith}
 use mathlib.Core.Bool.{Bool, false≢true}
-use mathlib.Core.List.{List, [], _∷_, Permᴰ·refl}
+use mathlib.Core.List.{List, [], _∷_}
 use mathlib.Core.Logic.{_↔_, inl}
 use mathlib.Core.Path.{_≡_, refl, ap}
 use lib.ListN.{getD-replicate}
@@ -14,16 +14,12 @@ use Rattle.colours.specs.Cache.{isColourCount}
 use Rattle.board.specs.Tests.{domainTests, boardTests, callTests}
 use Rattle.calls.specs.Table.{framesWith, mappedTo, frees, strays}
 use Rattle.calls.specs.Choices.{inColour, nextColour, nextFrame, taken, choices}
-use Rattle.calls.specs.Calls.{Answer, settle, called, look, fault, release, colours, pairUp, moveAll, recolour}
-use Rattle.isolation.specs.DomainRule.{Call, run, own, Program, Accepted, Empty}
+use Rattle.calls.specs.Calls.{Answer, settle, called, look, fault, release, colours, pairUp, insert, inOrder, moveAll, recolour}
+use Rattle.isolation.specs.DomainRule.{Call, run, own, Accepted, Empty}
 use Rattle.isolation.proofs.Theorems.{the-domain-rule}
 use Rattle.examples.specs.Example.{sameList, numbers}
 use Rattle.examples.specs.Table.{recorder}
 use Rattle.claims.specs.Looks.{LookAlike, ColoursAlike, MapsAlike, faulted, nothing, straight, roundabout, recoloured, LookClaims}
-
--- the program that writes the triples in the order in which the moves are made
-in-order : Program
-in-order = record { arrange = λ s c ms. ms; each-once = λ s c ms. Permᴰ·refl ms }
 
 accepted : Accepted recorder
 unfolding from keep each passes isColourSet has isColourCount domainTests boardTests
@@ -45,7 +41,7 @@ replays :
 unfolding
     from keep lowestFrom isFewest fewest unless each isColourSet has isColourCount domainTests boardTests callTests
     framesWith mappedTo frees strays inColour nextColour nextFrame taken choices
-    settle called look fault release colours pairUp moveAll recolour run own says sameList numbers
+    settle called look fault release colours pairUp insert inOrder moveAll recolour run own says sameList numbers
 replays = (
   λ same. false≢true (ap (says (2 ∷ [])) (same 9 (omega arith))),
   refl,
@@ -58,21 +54,20 @@ all-agree : ColoursAlike straight roundabout × MapsAlike straight roundabout
 all-agree = (ap (λ s. colours s 0 .reply) (replays .4), λ p small. ap (λ s. look s 0 p .reply) (replays .4))
 
 -- the rule of two histories, to domain 0
-rule : (P : Program) (h k : List Call) → LookAlike P h k ↔ (ColoursAlike h k × MapsAlike h k)
-rule P = the-domain-rule P recorder accepted empty 0 (omega arith)
+rule : (h k : List Call) → LookAlike h k ↔ (ColoursAlike h k × MapsAlike h k)
+rule = the-domain-rule recorder accepted empty 0 (omega arith)
 
 pub look-claims : LookClaims
 look-claims =
     record {
-      some-program = in-order;
       accepted = accepted;
       empty = empty;
       maps-differ = replays .0;
       colours-agree = replays .1;
-      do-not-look-alike = λ P same. replays .0 (rule P faulted nothing .0 same .1);
+      do-not-look-alike = λ same. replays .0 (rule faulted nothing .0 same .1);
       all-agree = all-agree;
-      look-alike = λ P. rule P straight roundabout .1 all-agree;
+      look-alike = rule straight roundabout .1 all-agree;
       colours-differ = replays .2;
       maps-agree = replays .3;
-      told-apart-by-colours = λ P same. replays .2 (rule P recoloured nothing .0 same .0);
+      told-apart-by-colours = λ same. replays .2 (rule recoloured nothing .0 same .0);
     }

@@ -26,6 +26,7 @@ use Rattle.claims.specs.Interface.{InterfaceClaims}
 use Rattle.claims.specs.Claims.{Claims}
 use Rattle.claims.proofs.Looks.{look-claims}
 use Rattle.claims.proofs.EvenUse.{even-use-claims}
+use Rattle.claims.proofs.PageOrder.{page-order-claims}
 use Rattle.claims.proofs.Reload.{reloaded-counts}
 use Rattle.claims.proofs.Rounds as reached
 
@@ -137,6 +138,7 @@ claims =
       histories = history-claims;
       looks = look-claims;
       even-use = even-use-claims;
+      page-order = page-order-claims;
       one-pass = one-pass-claims;
       supply = supply-claims;
       times = time-claims;

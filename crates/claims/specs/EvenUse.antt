@@ -10,7 +10,7 @@ use Rattle.colours.specs.Cache.{colourOf}
 use Rattle.colours.specs.Sets.{has}
 use Rattle.board.specs.Tests.{activeSet}
 use Rattle.calls.specs.Table.{State, stateOf, word, inSet}
-use Rattle.calls.specs.Calls.{New, Move, fault, move, recolour}
+use Rattle.calls.specs.Calls.{New, Moved, Move, fault, pairs, move, recolour}
 use Rattle.isolation.specs.DomainRule.{Call, Fault, Release, run, Accepted, Empty}
 use Rattle.isolation.specs.EvenUse.{KeptAll, isActive, freeIn, heldIn, EvenUse}
 
@@ -69,9 +69,9 @@ twelve-faults =
 
 pub record EvenUseClaims : Type 0 where
   -- Of any board and table: a fault that gives a page a frame takes it by the rule, for the active set. A recolouring takes its targets by it one by one,
-  -- for the new set, counting those already moved; frames that it vacates are none of them.
+  -- for the new set, counting those already moved; frames that it vacates are none of them. These are its moves before they are put in order.
   pub fault-takes : (s : State) (d p f : ℕ) → fault s d p .reply ≡ Answers (New f) → FewestFirst s d (activeSet (s .board) d) f
-  pub recolouring-takes : (s : State) (d c : ℕ) (lent : List ℕ) → OneByOne s d c (recolour s d c lent .moves)
+  pub recolouring-takes : (s : State) (d c : ℕ) (lent : List ℕ) (n : ℕ) → recolour s d c lent .reply ≡ Answers (Moved n) → OneByOne s d c (pairs s d c)
   -- In a history in which a domain has neither released nor recoloured it holds at most one frame more in one active colour than in another that still
   -- has a free frame.
   pub even-use : EvenUse

@@ -1,8 +1,9 @@
--- The page of claims: everything that is claimed beyond the contracts of the functions, in nine groups, and all of them as one type.
+-- The page of claims: everything that is claimed beyond the contracts of the functions, in ten groups, and all of them as one type.
 pub mod Colours
 pub mod Histories
 pub mod Looks
 pub mod EvenUse
+pub mod PageOrder
 pub mod OnePass
 pub mod Times
 pub mod Reload

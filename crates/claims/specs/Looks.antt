@@ -1,12 +1,12 @@
 -- The domain rule is not vacuous. On document 01's example board (N 4, F 8, grants 0x3 and 0xC, an empty table of zeros), to domain 0: two
 -- histories that do not look the same, because the map differs; two different ones that do; and two that differ in the colours alone.
 use mathlib.Core.List.{List, [], _∷_}
-use Rattle.isolation.specs.DomainRule.{Call, Look, Fault, Release, Recolour, run, own, Program, LookTheSame, SameColours, SameMap, Accepted, Empty}
+use Rattle.isolation.specs.DomainRule.{Call, Look, Fault, Release, Recolour, run, own, LookTheSame, SameColours, SameMap, Accepted, Empty}
 use Rattle.examples.specs.Table.{recorder}
 
--- the left side of the rule, for each program, and the two parts of its right side
-abbrev pub LookAlike : Program → List Call → List Call → Type 0
-LookAlike P h k = LookTheSame P 0 (run recorder h) (run recorder k)
+-- the left side of the rule, and the two parts of its right side
+abbrev pub LookAlike : List Call → List Call → Type 0
+LookAlike h k = LookTheSame 0 (run recorder h) (run recorder k)
 
 abbrev pub ColoursAlike : List Call → List Call → Type 0
 ColoursAlike h k = SameColours 0 (run recorder (own 0 h)) (run recorder (own 0 k))
@@ -33,18 +33,17 @@ abbrev pub recoloured : List Call
 recoloured = Recolour 0 0x1 [] ∷ []
 
 pub record LookClaims : Type 0 where
-  -- There is a program, and a start: the rule speaks of something.
-  pub some-program : Program
+  -- There is a start: the rule speaks of something.
   pub accepted : Accepted recorder
   pub empty : Empty recorder
   -- The right side is false, for the map, and so is the left.
   pub maps-differ : MapsAlike faulted nothing → ⊥
   pub colours-agree : ColoursAlike faulted nothing
-  pub do-not-look-alike : (P : Program) → LookAlike P faulted nothing → ⊥
+  pub do-not-look-alike : LookAlike faulted nothing → ⊥
   -- The right side is true of two different histories, and so is the left.
   pub all-agree : ColoursAlike straight roundabout × MapsAlike straight roundabout
-  pub look-alike : (P : Program) → LookAlike P straight roundabout
+  pub look-alike : LookAlike straight roundabout
   -- The colours alone differ, and that is enough.
   pub colours-differ : ColoursAlike recoloured nothing → ⊥
   pub maps-agree : MapsAlike recoloured nothing
-  pub told-apart-by-colours : (P : Program) → LookAlike P recoloured nothing → ⊥
+  pub told-apart-by-colours : LookAlike recoloured nothing → ⊥

@@ -7,7 +7,7 @@ use Rattle.refusal.specs.Reply.{Reply, Answers, Refuses}
 use Rattle.board.specs.declared.Board.{Board}
 use Rattle.calls.specs.Table.{State}
 use Rattle.calls.specs.Calls.{Answer, Mapped, Unmapped, Old, New, Freed, Active, Moved, Move, triples}
-use Rattle.isolation.specs.DomainRule.{Call, outcome, run}
+use Rattle.isolation.specs.DomainRule.{Call, outcome, run, told}
 use Rattle.colours.specs.Cache.{cacheReply}
 use Rattle.colours.specs.Pages.{layoutReply, bleachReply, dropBits, equationOne}
 use Rattle.supply.specs.Supply.{supply}
@@ -31,8 +31,10 @@ pub data Example : Type 0 where
   Equation : ℕ → ℕ → ℕ → ℕ → ℕ → ℕ → Example
   -- a start, a history and a call after it: the reply
   Reply-after : State → List Call → Call → Reply Answer → Example
-  -- a start and a history: the moves of its last call, and the table that it leaves
+  -- a start, a history and a call after it: its moves, and the words of its move list
   Moves-of : State → List Call → Call → List Move → Example
+  List-after : State → List Call → Call → List ℕ → Example
+  -- a start and a history: the table that it leaves
   Table-after : State → List Call → List ℕ → Example
   -- period, budget and t: the least supply in t
   Supply : ℕ → ℕ → ℕ → ℕ → Example
@@ -93,6 +95,7 @@ holds (Drop m k p q) = eqb (dropBits m k p) q
 holds (Equation c l h b a q) = eqb (equationOne c l h b a) q
 holds (Reply-after s h c r) = sameList (numbers (outcome (run s h) c .reply)) (numbers r)
 holds (Moves-of s h c ms) = sameList (triples (outcome (run s h) c .moves)) (triples ms)
+holds (List-after s h c ws) = sameList (told (run s h) c .list) ws
 holds (Table-after s h t) = sameList (run s h .table) t
 holds (Supply p q t x) = eqb (supply p q t) x
 holds (Vcpu-time vcpus i time) = sameList (timeNumbers (vcpuTime vcpus i)) (timeNumbers time)

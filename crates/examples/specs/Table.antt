@@ -8,7 +8,7 @@ use Rattle.calls.specs.Table.{State}
 use Rattle.calls.specs.Calls.{Move, New, Moved}
 use Rattle.isolation.specs.DomainRule.{Call, Fault, Release, Recolour}
 use Rattle.times.specs.First.{At}
-use Rattle.examples.specs.Example.{Example, Cache, Layout, Bleach, Drop, Equation, Reply-after, Moves-of, Table-after, Supply, Vcpu-time, Task-time, Vcpu-rounds, Task-rounds, Reloads, Pairwise-time, Admission}
+use Rattle.examples.specs.Example.{Example, Cache, Layout, Bleach, Drop, Equation, Reply-after, Moves-of, List-after, Table-after, Supply, Vcpu-time, Task-time, Vcpu-rounds, Task-rounds, Reloads, Pairwise-time, Admission}
 
 abbrev pub sets : List ℕ
 sets = 0x3 ∷ 0xC ∷ 0 ∷ 0 ∷ 0 ∷ 0 ∷ 0 ∷ 0 ∷ []
@@ -59,6 +59,13 @@ uneven = alone 0xF (8 ∷ 1 ∷ 0 ∷ 6 ∷ 0 ∷ 2 ∷ 0 ∷ 65535 ∷ 7 ∷ 0 
 
 abbrev pub to-the-middle : Call
 to-the-middle = Recolour 0 0x6 (0 ∷ 0 ∷ 0 ∷ 0 ∷ 0 ∷ 0 ∷ 0 ∷ 0 ∷ 0 ∷ [])
+
+-- a page in two frames, 4 and 7, and one each in frames 0 and 11, all of them outside colours 1 and 2; of these frames 2 and 6 are reserved
+abbrev pub page-twice : State
+page-twice = alone 0xF (10 ∷ 0 ∷ 65535 ∷ 0 ∷ 5 ∷ 0 ∷ 65535 ∷ 5 ∷ 0 ∷ 0 ∷ 0 ∷ 3 ∷ [])
+
+abbrev pub four-to-the-middle : Call
+four-to-the-middle = Recolour 0 0x6 (20 ∷ 21 ∷ 22 ∷ 23 ∷ 24 ∷ 25 ∷ 26 ∷ 27 ∷ 28 ∷ 29 ∷ 30 ∷ 31 ∷ 32 ∷ 33 ∷ [])
 
 abbrev pub moved : ℕ → ℕ → ℕ → Move
 moved p f g = record { page = p; source = f; target = g }
@@ -139,8 +146,17 @@ examples =
     -- a recolouring counts the frames that it has moved: the domain holds 2 and 1 of colours 1 and 2, then 2 and 2, then 3 and 2. The lowest free frames
     -- would be 2, 6 and 9
     ∷ Reply-after uneven [] to-the-middle (Answers (Moved 3))
-    ∷ Moves-of uneven [] to-the-middle (moved 7 0 2 ∷ moved 5 3 9 ∷ moved 6 8 6 ∷ [])
+    ∷ Moves-of uneven [] to-the-middle (moved 5 3 9 ∷ moved 6 8 6 ∷ moved 7 0 2 ∷ [])
     ∷ Table-after uneven (to-the-middle ∷ []) (0 ∷ 1 ∷ 8 ∷ 0 ∷ 0 ∷ 2 ∷ 7 ∷ 65535 ∷ 0 ∷ 6 ∷ 3 ∷ 0 ∷ [])
+    -- document 02, No. 4: frames 0, 4, 7 and 11 go, in this order, to frame 1, since none is held of colours 1 and 2; to frame 10, the only free one of
+    -- colour 2; then to 5 and 9. The triples stand by page, those of page 4 by old frame though the new frames stand the other way round, and the two
+    -- words past them do not change
+    ∷ Moves-of page-twice [] four-to-the-middle (moved 2 11 9 ∷ moved 4 4 10 ∷ moved 4 7 5 ∷ moved 9 0 1 ∷ [])
+    ∷ List-after page-twice [] four-to-the-middle (2 ∷ 11 ∷ 9 ∷ 4 ∷ 4 ∷ 10 ∷ 4 ∷ 7 ∷ 5 ∷ 9 ∷ 0 ∷ 1 ∷ 32 ∷ 33 ∷ [])
+    ∷ Table-after page-twice (four-to-the-middle ∷ []) (0 ∷ 10 ∷ 65535 ∷ 0 ∷ 0 ∷ 5 ∷ 65535 ∷ 0 ∷ 0 ∷ 3 ∷ 5 ∷ 0 ∷ [])
+    -- where it is refused no word of the list changes
+    ∷ Reply-after page-twice [] (Recolour 0 0x4 (20 ∷ 21 ∷ 22 ∷ [])) (Refuses 12 0)
+    ∷ List-after page-twice [] (Recolour 0 0x4 (20 ∷ 21 ∷ 22 ∷ [])) (20 ∷ 21 ∷ 22 ∷ [])
     -- document 02, No. 9, in document 01's examples by the millisecond: the round that ends the search counts, at the time or past the deadline, and with
     -- cost 1 under full supply it is the only one
     ∷ Vcpu-rounds (vcpu 10 10) 0 2 2

@@ -9,7 +9,9 @@ pub mod ByLanes
 pub mod Called
 pub mod Pages
 pub mod Step
+pub mod Limits
 pub mod Going
+pub mod PageCounts
 pub mod Turn
 pub mod Passes
 pub mod Recolours

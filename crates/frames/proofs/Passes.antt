@@ -6,7 +6,7 @@ use mathlib.Core.Bool.{Bool, true, false, not, _&&_, and-false}
 use mathlib.Core.List.{List}
 use mathlib.Core.Path.{_≡_, refl, sym, ap, _∙_}
 use lib.Dec.{eqb, ltb}
-use lib.ListN.{length, getD}
+use lib.ListN.{length}
 use lib.Seq.{take-all}
 use borrow.Author.Tests.{eqb-true, eqb-false, eq-eqb, ne-eqb, lt-ltb, le-ltb}
 use Rattle.lists.specs.Range.{upto, keep}
@@ -20,7 +20,7 @@ use Rattle.pass.specs.Steps.{read, atMost, surveyOf}
 use Rattle.calls.specs.Table.{word, wordOf, inSet, isFree, isStray}
 use Rattle.calls.specs.OnePass.{after}
 use Rattle.calls.proofs.Lanes.{own-words, sum-is, held-is, free-is}
-use Rattle.frames.specs.Steps.{sideOf, keyOf, FreesBy, KeysFit, KeysFitBy, KeysBy, lowestIn, Ready}
+use Rattle.frames.specs.Steps.{sideOf, keyOf, FreesIn, KeysFit, KeysFitBy, KeysBy, Ready}
 use Rattle.frames.proofs.Keys.{keys-fit}
 
 module _ (t : List ℕ) (d : ℕ) (most : length t ≤ 4096) (low : d < 8) where
@@ -68,19 +68,16 @@ module _ (t : List ℕ) (d : ℕ) (most : length t ≤ 4096) (low : d < 8) where
     lanes-fit x l e h =
         omega (arith, held-is n d t ok x, keys-fit n d t ok most x l (omega (arith, h, free-is n d t ok x)))
 
-    module _ (frees : List ℕ) (are : FreesBy n m c free frees) where
-      frees-are : (x : ℕ) → x < n → has c x ≡ true → getD frees x 0 ≡ lowestIn t n x
-      frees-are x l e = are x l e ∙ free-is n d t ok x
-
+    module _ (frees : List ℕ) (are : FreesIn t n c frees) where
       pub frees-fit : KeysFit n m c held frees
       frees-fit x l e h =
-          omega (arith, held-is n d t ok x, keys-fit n d t ok most x l (omega (arith, h, frees-are x l e)))
+          omega (arith, held-is n d t ok x, keys-fit n d t ok most x l (omega (arith, h, are x l e)))
 
       pub ready-start : (keys : List ℕ) → KeysBy n m c held frees keys → Ready t d n c frees keys
       unfolding keyOf
       ready-start keys made =
           record {
-            free-at = frees-are;
+            free-at = are;
             key-at = λ x l. made x l ∙
-                below-or-not x n (λ h. cases (has c x) (λ e. rw (frees-are x h e, held-is n d t ok x)) (λ e. rw (e, and-false (ltb x n)))) (λ h. rw (le-ltb x n h));
+                below-or-not x n (λ h. cases (has c x) (λ e. rw (are x h e, held-is n d t ok x)) (λ e. rw (e, and-false (ltb x n)))) (λ h. rw (le-ltb x n h));
           }

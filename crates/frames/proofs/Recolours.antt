@@ -1,26 +1,39 @@
 -- Recolour by its reply: what the two counts that the code takes say of it, and what a recolouring with that reply does.
 use Prim.Native.Nat.{ℕ, _*_, _<_, _≤_}
 use native.Mathlib.Omega.{arith}
-use mathlib.Core.Bool.{true, false}
-use mathlib.Core.List.{List, [], _∷_, _++_, Permᴰ·refl}
+use mathlib.Core.List.{List, [], _∷_, _++_, append-assoc}
 use mathlib.Core.Path.{_≡_, refl, sym, ap, ap₂, _∙_}
 use lib.Dec.{ltb}
-use lib.ListN.{length, drop}
+use lib.ListN.{length}
 use borrow.Author.Tests.{lt-ltb, le-ltb, ltb-false}
 use Rattle.lists.specs.Range.{upto, keep}
 use Rattle.refusal.specs.Reply.{Reply, Answers, Refuses, Test, test, unless}
 use Rattle.refusal.proofs.Replies.{passed-first, passed-answers, answers-passed}
-use Rattle.refusal.proofs.Order.{refuses-alike, unless-passed, passed-earlier, passed-later}
+use Rattle.refusal.proofs.Order.{refuses-alike, unless-refused, unless-passed, passed-earlier, passed-later}
 use Rattle.board.specs.declared.Board.{Board}
 use Rattle.board.specs.Tests.{grant, emptyOrOutside, callTests, callReply}
 use Rattle.board.proofs.Passed.{Accepted, accepted}
 use Rattle.calls.specs.Table.{State, stateOf, isFree, isHeld, isStray, framesWith, frees, strays}
 use Rattle.calls.specs.Choices.{taken, choices}
-use Rattle.calls.specs.Calls.{Answer, Outcome, Moved, settle, called, pairUp, moveAll, withActive, recolourTests, recolour, triples, Listed}
+use Rattle.calls.specs.Calls.{Answer, Outcome, Moved, settle, called, pairUp, moveAll, inOrder, withActive, recolourTests, recolour, triples, listed}
 use Rattle.calls.proofs.Choice.{taken-count}
-use Rattle.frames.specs.Steps.{recolourReply, movesOn, Movable}
+use Rattle.frames.specs.Steps.{setReply, weighed, recolourReply, movesOn, Movable}
 use Rattle.frames.proofs.Called.{refused}
-use Rattle.frames.proofs.Going.{moves-count}
+
+-- 12, 13, or the count
+module _ (count free room : ℕ) where
+  pub weighed-twelve : free < count → weighed count free room ≡ Refuses 12 0
+  unfolding weighed unless
+  weighed-twelve l = simp (lt-ltb free count l)
+
+  module _ (enough : count ≤ free) where
+    pub weighed-thirteen : room < 3 * count → weighed count free room ≡ Refuses 13 0
+    unfolding weighed unless
+    weighed-thirteen l = simp (le-ltb free count enough, lt-ltb room (3 * count) l)
+
+    pub weighed-count : 3 * count ≤ room → weighed count free room ≡ Answers (Moved count)
+    unfolding weighed unless
+    weighed-count l = simp (le-ltb free count enough, le-ltb room (3 * count) l)
 
 module _ (b : Board) (t : List ℕ) (d c : ℕ) where
   abbrev s : State
@@ -36,6 +49,17 @@ module _ (b : Board) (t : List ℕ) (d c : ℕ) where
   unfolding strays framesWith
   strays-is e = rw e
 
+  abbrev nine : Test
+  nine = test 9 (emptyOrOutside (grant b d) c)
+
+  abbrev later : ℕ → List Test
+  later room = test 12 (ltb (length (choices s d c)) (length (strays s d c))) ∷ test 13 (ltb room (3 * length (strays s d c))) ∷ []
+
+  -- 9 stands with 2 to 8
+  in-two : (room : ℕ) → recolourReply s d c room ≡ unless ((callTests b (length t) d ++ (nine ∷ [])) ++ later room) (Moved (length (strays s d c)))
+  unfolding recolourReply
+  in-two room = ap (λ (ts : List Test). unless ts (Moved (length (strays s d c)))) (sym (append-assoc (callTests b (length t) d) (nine ∷ []) (later room)))
+
   abbrev targets : List ℕ
   targets = taken (length free) (b .colours) (length t) (isFree t (b .colours) c) (isHeld t d)
 
@@ -47,38 +71,24 @@ module _ (b : Board) (t : List ℕ) (d c : ℕ) where
   target-count : length targets ≡ length free
   target-count = taken-count (length free) (b .colours) (length t) (isFree t (b .colours) c) (isHeld t d)
 
-  -- the reply, where 2 to 8 pass, by the frames to move and those that they can go to
-  module _ (room : ℕ) (ok : callReply b (length t) d ≡ Answers tt) where
-    abbrev replied : List ℕ → ℕ → Reply Answer
-    replied vs gs =
-        unless
-        (test 9 (emptyOrOutside (grant b d) c) ∷ test 12 (ltb gs (length vs)) ∷ test 13 (ltb room (3 * length vs)) ∷ [])
-        (Moved (length vs))
+  -- the reply by its parts: 2 to 9, and then 12 and 13 by the frames to move and those that they can go to
+  pub reply-refused : (room n r : ℕ) → setReply b (length t) d c ≡ Refuses n r → recolourReply s d c room ≡ Refuses n r
+  unfolding setReply
+  reply-refused room n r e = in-two room ∙ unless-refused (tt {0}) _ (callTests b (length t) d ++ (nine ∷ [])) (later room) n r e
 
-    reply-is : recolourReply s d c room ≡ replied held (length free)
-    unfolding recolourReply callReply
-    reply-is =
-        let long = accepted b (length t) d ok .bounds .long in
-        unless-passed (tt {0}) _ (callTests b (length t) d) (recolourTests s d c room) ok
-        ∙ ap₂ replied (strays-is long) (ap length (choices-is long) ∙ target-count)
+  module _ (ok : setReply b (length t) d c ≡ Answers tt) where
+    pub set-accepted : Accepted b (length t) d
+    unfolding setReply callReply
+    set-accepted =
+        accepted b (length t) d (passed-answers (callTests b (length t) d) (tt {0}) (passed-earlier (callTests b (length t) d) (nine ∷ []) (answers-passed (callTests b (length t) d ++ (nine ∷ [])) _ _ ok .0)))
 
-    pub reply-nine : emptyOrOutside (grant b d) c ≡ true → recolourReply s d c room ≡ Refuses 9 0
-    unfolding unless
-    reply-nine e = reply-is ∙ simp e
-
-    module _ (nine : emptyOrOutside (grant b d) c ≡ false) where
-      pub reply-twelve : length free < length held → recolourReply s d c room ≡ Refuses 12 0
-      unfolding unless
-      reply-twelve l = reply-is ∙ simp (nine, lt-ltb (length free) (length held) l)
-
-      module _ (enough : length held ≤ length free) where
-        pub reply-thirteen : room < 3 * length held → recolourReply s d c room ≡ Refuses 13 0
-        unfolding unless
-        reply-thirteen l = reply-is ∙ simp (nine, le-ltb (length free) (length held) enough, lt-ltb room (3 * length held) l)
-
-        pub reply-count : 3 * length held ≤ room → recolourReply s d c room ≡ Answers (Moved (length held))
-        unfolding unless
-        reply-count l = reply-is ∙ simp (nine, le-ltb (length free) (length held) enough, le-ltb room (3 * length held) l)
+    pub reply-weighed : (room : ℕ) → recolourReply s d c room ≡ weighed (length held) (length free) room
+    unfolding setReply weighed
+    reply-weighed room =
+        let long = set-accepted .bounds .long in
+        in-two room
+        ∙ unless-passed (tt {0}) _ (callTests b (length t) d ++ (nine ∷ [])) (later room) ok
+        ∙ ap₂ (λ (vs : List ℕ) (k : ℕ). weighed (length vs) k room) (strays-is long) (ap length (choices-is long) ∙ target-count)
 
   -- a recolouring whose reply is known
   module _ (m : List ℕ) where
@@ -89,14 +99,14 @@ module _ (b : Board) (t : List ℕ) (d c : ℕ) where
     abbrev pub Meets : Reply Answer → Board → List ℕ → List ℕ → Type 0
     Meets answer next table after =
         let o = recolour s d c m in
-        (answer ≡ o .reply) × ((next ≡ o .next .board) × ((table ≡ o .next .table) × Listed (o .moves) m after))
+        (answer ≡ o .reply) × ((next ≡ o .next .board) × ((table ≡ o .next .table) × (after ≡ listed (o .moves) m)))
 
     -- a refusal leaves all as it was
     pub refusal-meets : (n r : ℕ) → recolourReply s d c (length m) ≡ Refuses n r → Meets (Refuses n r) b t m
     unfolding recolour called recolourReply settle triples
     refusal-meets n r e =
         let is : recolour s d c m ≡ refused s n r = ap (settle s) (refuses-alike _ _ tests n r e) in
-        rw is (refl, (refl, (refl, record { order = []; each-once = Permᴰ·refl []; words = refl })))
+        rw is (refl, (refl, (refl, refl)))
 
     module _ (count : ℕ) (e : recolourReply s d c (length m) ≡ Answers (Moved count)) where
       -- 2 to 8, 9, 12 and 13 pass, and so many frames are to be moved
@@ -131,7 +141,7 @@ module _ (b : Board) (t : List ℕ) (d c : ℕ) where
       done k vs gs =
           record {
             reply = Answers (Moved k);
-            moves = pairUp d t vs gs;
+            moves = inOrder (pairUp d t vs gs);
             next = record { board = withActive b d c; table = moveAll t (pairUp d t vs gs) };
           }
 
@@ -147,10 +157,7 @@ module _ (b : Board) (t : List ℕ) (d c : ℕ) where
       pub recolour-meets :
           (next : Board) (table after : List ℕ)
           → next ≡ withActive b d c
-          → (table ≡ moveAll t (movesOn t d (b .colours) c)) × (after ≡ triples (movesOn t d (b .colours) c) ++ drop (3 * count) m)
+          → (table ≡ moveAll t (movesOn t d (b .colours) c)) × (after ≡ listed (inOrder (movesOn t d (b .colours) c)) m)
           → Meets (Answers (Moved count)) next table after
       unfolding movesOn
-      recolour-meets next table after be te =
-          let ms = movesOn t d (b .colours) c in
-          rw (recolour-is, te .1)
-          (refl, (be, (te .0, record { order = ms; each-once = Permᴰ·refl ms; words = ap (λ (k : ℕ). triples ms ++ drop (3 * k) m) (sym (moves-count d (b .colours) c t m count movable)) })))
+      recolour-meets next table after be te = rw recolour-is (refl, (be, te))

@@ -1,17 +1,19 @@
 -- The numbers of one colour: from one of them to the next it is as far as there are colours, so that a search and a sum over them may go in such steps.
 use Prim.Native.Nat.{ℕ, _+_, _%_, _<_, _≤_}
-use native.Mathlib.Nat.{le-refl, lt-irrefl}
+use native.Mathlib.Nat.{le-refl, lt-irrefl, lt-trans, mod-eq-of-lt}
 use native.Mathlib.Omega.{arith}
-use mathlib.Core.Bool.{Bool, true, false}
+use mathlib.Core.Bool.{Bool, true, false, and-false}
 use mathlib.Core.List.{[], _∷_}
 use mathlib.Core.Path.{_≡_, sym, _∙_}
-use Rattle.lists.specs.Range.{lowestFrom}
+use borrow.Author.Tests.{ne-eqb}
+use Rattle.lists.specs.Range.{lowest, lowestFrom}
 use Rattle.lists.proofs.Split.{below-or-not}
 use Rattle.lists.proofs.Members.{member-has}
 use Rattle.lists.proofs.Kept.{ahead, ahead-end}
 use Rattle.lists.proofs.Sought.{sought-end}
-use Rattle.lists.proofs.Found.{ahead-past, sought-past, from-on}
+use Rattle.lists.proofs.Found.{ahead-past, sought-past, none-lowest, from-on}
 use Rattle.colours.specs.Cache.{isColourCount}
+use Rattle.calls.specs.Choices.{ofColour}
 
 -- between two there is none
 pub next-of-colour : (n f k : ℕ) → isColourCount n ≡ true → f ≤ k → k < f + n → k % n ≡ f % n → k ≡ f
@@ -59,3 +61,15 @@ module _ (p : ℕ → Bool) (n x : ℕ) (ok : isColourCount n ≡ true) (only : 
     where
       from-f : (k : ℕ) → f ≤ k → k < f + n → p k ≡ false
       from-f k a b = from-on (λ (j : ℕ). p j ≡ false) f k a out (λ m. between f k e (omega arith) b)
+
+-- the lowest number with remainder x, which is x or beyond
+module _ (p : ℕ → Bool) (n x : ℕ) (l : x < n) where
+  under : (m : ℕ) → m < x → ofColour n p x m ≡ false
+  under m h = rw (mod-eq-of-lt (lt-trans h l), ne-eqb m x (λ z. lt-irrefl m (omega arith))) (and-false (p m))
+
+  pub first-of-colour : (m : ℕ) → lowestFrom (ofColour n p (x % n)) x m ≡ lowest (ofColour n p x) m
+  first-of-colour m =
+      rw (mod-eq-of-lt l)
+      (below-or-not m x
+      (λ h. sought-end (ofColour n p x) x m (omega arith) ∙ sym (none-lowest (ofColour n p x) m (λ f k. under f (omega arith))))
+      (λ h. sym (sought-past (ofColour n p x) 0 x m (omega arith) h (λ f a b. under f b))))

@@ -4,6 +4,7 @@
 mod choosing;
 mod mapping;
 mod moving;
+mod ordering;
 mod recolouring;
 mod scan;
 

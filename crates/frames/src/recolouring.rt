@@ -1,11 +1,15 @@
 // Colours and recolour: document 01, the active set of a domain and the change of it, with refusals
-// 2 to 9, 12 and 13. Only recolour changes the board, and hands it back beside its answer.
+// 2 to 9, 12 and 13, and 02, Nos. 4 and 7. Only recolour changes the board, and hands it back beside its answer.
 ghost use mathlib.Core.Path.{_≡_};
-ghost use Prim.Native.Nat.{_<_};
-ghost use Rattle.calls.specs.Table.{stateOf};
-ghost use Rattle.calls.specs.Calls.{colours as coloursCall, recolour as recolourCall, withActive, Listed};
+ghost use mathlib.Core.Bool.{true, false};
+ghost use Prim.Native.Nat.{ℕ, _<_, _≤_};
+ghost use Rattle.colours.specs.Cache.{isColourCount};
+ghost use Rattle.board.specs.Paper.{paperChecked};
+ghost use Rattle.kept.specs.Lanes.{sumLanes};
+ghost use Rattle.calls.specs.Table.{stateOf, inSet};
+ghost use Rattle.calls.specs.Calls.{colours as coloursCall, recolour as recolourCall, withActive, listed};
 ghost use Rattle.frames.specs.Paper.{paperActive, paperMoved};
-ghost use Rattle.frames.specs.Steps.{recolourReply};
+ghost use Rattle.frames.specs.Steps.{setReply, weighed, sideOf};
 use crate::moving::move_all;
 use crate::scan::sum_side;
 use crate::scan::word_for;
@@ -52,20 +56,24 @@ pub fn colours(board: Board, table: &[u16], domain: u32) -> ActiveColours
     }
 }
 
-// What a recolouring answers: the count of moves, or a refusal. All is counted before anything is moved.
-fn judge(board: Board, table: &[u16], domain: u32, set: u32, room: usize) -> Moved
-    ensures { λ r. ⌜ paperMoved r ≡ recolourReply (stateOf board (now (table .entry))) domain set room ⌝ }
+// Refusals 2 to 9.
+fn check_set(board: Board, words: usize, domain: u32, set: u32) -> Checked
+    ensures { λ r. ⌜ paperChecked r ≡ setReply board words domain set ⌝ }
 {
-    if let Checked::Refused(refusal) = check_call(board, table.len(), domain) {
-        return Moved::Refused(refusal);
+    if let Checked::Refused(refusal) = check_call(board, words, domain) {
+        return Checked::Refused(refusal);
     }
     if set == 0 || set & grant_of(board, domain) != set {
-        return Moved::Refused(Refusal { number: 9, row: 0 });
+        return Checked::Refused(Refusal { number: 9, row: 0 });
     }
-    let colours = board.colours as usize;
-    let lanes = survey(table, word_for(domain, 0));
-    let held = lanes.held;
-    let free = lanes.count;
+    Checked::Accepted
+}
+
+// The count of moves, by the frames held and the free frames of the lanes, or refusals 12 and 13.
+fn weigh(held: [u16; 16], free: [u16; 16], colours: usize, set: u32, room: usize) -> Moved
+    requires { ⌜ (isColourCount colours ≡ true) × (sumLanes (λ (i : ℕ). sideOf false (inSet colours set i)) held ≤ 4096) ⌝ }
+    ensures { λ r. ⌜ paperMoved r ≡ weighed (sumLanes (λ (i : ℕ). sideOf false (inSet colours set i)) held) (sumLanes (λ (i : ℕ). sideOf true (inSet colours set i)) free) room ⌝ }
+{
     let count = sum_side(held, colours, set, false);
     if sum_side(free, colours, set, true) < count {
         return Moved::Refused(Refusal { number: 12, row: 0 });
@@ -88,18 +96,21 @@ pub fn recolour(
     ensures { λ r. ⌜ paperMoved (r .answer) ≡ (recolourCall (stateOf board (now (table .entry))) domain set (now (moves .entry))) .reply ⌝ }
     ensures { λ r. ⌜ r .board ≡ (recolourCall (stateOf board (now (table .entry))) domain set (now (moves .entry))) .next .board ⌝ }
     ensures { λ r. ⌜ now (table .exit) ≡ (recolourCall (stateOf board (now (table .entry))) domain set (now (moves .entry))) .next .table ⌝ }
-    ensures { λ r. ⌜ Listed ((recolourCall (stateOf board (now (table .entry))) domain set (now (moves .entry))) .moves) (now (moves .entry)) (now (moves .exit)) ⌝ }
+    ensures { λ r. ⌜ now (moves .exit) ≡ listed ((recolourCall (stateOf board (now (table .entry))) domain set (now (moves .entry))) .moves) (now (moves .entry)) ⌝ }
 {
-    let answer = judge(board, table, domain, set, moves.len());
+    if let Checked::Refused(refusal) = check_set(board, table.len(), domain, set) {
+        return Recoloured {
+            board,
+            answer: Moved::Refused(refusal),
+        };
+    }
+    let colours = board.colours as usize;
+    let lanes = survey(table, word_for(domain, 0));
+    let held = lanes.held;
+    let free = lanes.free;
+    let answer = weigh(held, free, colours, set, moves.len());
     if let Moved::Count(count) = answer {
-        move_all(
-            table,
-            moves,
-            domain,
-            board.colours as usize,
-            set,
-            count as usize,
-        );
+        move_all(table, moves, domain, colours, set, count as usize, held);
         return Recoloured {
             board: with_active(board, domain, set),
             answer,

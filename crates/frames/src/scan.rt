@@ -1,15 +1,19 @@
 // Loops over the frame table, in ascending order: the next frame with a word, the next free frame of a colour and
-// the next stray from a frame on, each the table's length where there is none; and sums over lanes.
+// the next stray from a frame on, each the table's length where there is none; the limits by which a stray is
+// told; and sums over lanes.
 ghost use mathlib.Core.Path.{_≡_};
-ghost use mathlib.Core.Bool.{true, not, _&&_};
+ghost use mathlib.Core.Bool.{true, _&&_};
+ghost use mathlib.Core.Logic.{_⊎_};
 ghost use Prim.Native.Nat.{ℕ, _+_, _%_, _≤_, _<_};
+ghost use lib.Dec.{ltb};
 ghost use lib.ListN.{length};
 ghost use Rattle.lists.specs.Range.{upto, any, lowestFrom};
 ghost use Rattle.colours.specs.Cache.{isColourCount};
-ghost use Rattle.calls.specs.Table.{wordOf, isOf, inSet, hasWord, isStray};
+ghost use Rattle.calls.specs.Table.{wordOf, inSet, hasWord};
 ghost use Rattle.calls.specs.Choices.{ofColour};
+ghost use Rattle.kept.specs.Kept.{isOwn};
 ghost use Rattle.kept.specs.Lanes.{sumLanes};
-ghost use Rattle.frames.specs.Steps.{sideOf};
+ghost use Rattle.frames.specs.Steps.{sideOf, limitOf, LimitsBy, EachLimit, strayBy};
 
 // The word of a frame that a domain holds for a page.
 pub(crate) fn word_for(domain: u32, page: u32) -> u16
@@ -28,12 +32,27 @@ pub(crate) fn in_set(colours: usize, set: u32, frame: usize) -> bool
     (set >> ((frame & (colours - 1)) as u32)) % 2 == 1
 }
 
-// Whether a domain holds a frame with this word, outside a set.
-fn is_stray(word: u16, domain: u32, colours: usize, set: u32, frame: usize) -> bool
-    requires { ⌜ (isColourCount colours ≡ true) × (domain < 8) ⌝ }
-    ensures { λ r. ⌜ r ≡ (isOf domain word && not (inSet colours set frame)) ⌝ }
+// How far the word of a stray lies above the domain's first word: less than 4,096 in a lane whose colour is
+// outside a set, and less than 0, which no word does, in one whose colour is in it.
+fn limit_of(colours: usize, set: u32, lane: usize) -> u16
+    requires { ⌜ isColourCount colours ≡ true ⌝ }
+    ensures { λ r. ⌜ r ≡ limitOf colours set lane ⌝ }
 {
-    word_for(domain, 0) <= word && word <= word_for(domain, 4095) && !in_set(colours, set, frame)
+    if in_set(colours, set, lane) { 0 } else { 4096 }
+}
+
+// The same by lane.
+pub(crate) fn limits_of(colours: usize, set: u32) -> [u16; 16]
+    requires { ⌜ isColourCount colours ≡ true ⌝ }
+    ensures { λ r. ⌜ LimitsBy colours set r ⌝ }
+{
+    let mut limits = [0u16; 16];
+    let mut lane: usize = 0;
+    while lane < 16 {
+        limits[lane] = limit_of(colours, set, lane);
+        lane += 1;
+    }
+    limits
 }
 
 // Whether one of sixteen frames from one on has a word. All are read, so that they can be compared at
@@ -97,20 +116,23 @@ pub(crate) fn next_free(table: &[u16], start: usize, colours: usize) -> usize
     table.len()
 }
 
-// The lowest frame from one on that a domain holds outside a set.
-pub(crate) fn next_stray(
-    table: &[u16],
-    start: usize,
-    domain: u32,
-    colours: usize,
-    set: u32,
-) -> usize
-    requires { ⌜ (isColourCount colours ≡ true) × (start ≤ length (now table)) × (domain < 8) ⌝ }
-    ensures { λ r. ⌜ r ≡ lowestFrom (isStray (now (table .entry)) colours domain set) start (length (now (table .entry))) ⌝ }
+// Whether a word lies above the first by less than such a limit: it is the domain's, and the colour of the lane
+// is outside the set.
+fn is_stray(word: u16, first: u16, limit: u16) -> bool
+    requires { ⌜ (first ≤ 61440) × ((limit ≡ 0) ⊎ (limit ≡ 4096)) ⌝ }
+    ensures { λ r. ⌜ r ≡ (isOwn first word && ltb 0 limit) ⌝ }
+{
+    std::num::wrapping_sub_u16(word, first) < limit
+}
+
+// The lowest frame from one on that has such a word.
+pub(crate) fn next_stray(table: &[u16], start: usize, first: u16, limits: &[u16; 16]) -> usize
+    requires { ⌜ (start ≤ length (now table)) × (first ≤ 61440) × EachLimit (now limits) ⌝ }
+    ensures { λ r. ⌜ r ≡ lowestFrom (strayBy (now (table .entry)) first (now (limits .entry))) start (length (now (table .entry))) ⌝ }
 {
     let mut f = start;
     while f < table.len() {
-        if is_stray(table[f], domain, colours, set, f) {
+        if is_stray(table[f], first, limits[f % 16]) {
             return f;
         }
         f += 1;

@@ -9,5 +9,6 @@ pub mod Keeps
 pub mod Sees
 pub mod Reveals
 pub mod Rule
+pub mod MoveLists
 pub mod Theorems
 pub mod EvenUse

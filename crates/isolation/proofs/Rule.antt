@@ -3,16 +3,16 @@
 use Prim.Native.Nat.{ℕ, _<_}
 use native.Mathlib.Omega.{arith}
 use mathlib.Core.Bool.{Bool, true, false}
-use mathlib.Core.List.{List, [], _∷_, List·Permᴰ·trans, Permᴰ·symm}
+use mathlib.Core.List.{List, [], _∷_}
 use mathlib.Core.Logic.{_⊎_, inl, inr, ⊎-elim}
-use mathlib.Core.Path.{_≡_, refl, sym, _∙_}
+use mathlib.Core.Path.{_≡_, refl, sym, ap, _∙_}
 use lib.Dec.{eqb}
 use borrow.Author.Tests.{eqb-true, eqb-false, eq-eqb}
 use Rattle.board.specs.declared.Board.{Board}
 use Rattle.calls.specs.Table.{State, word}
-use Rattle.isolation.specs.DomainRule.{Call, Look, Colours, names, outcome, run, own, Program, Told, told, Same, AllSame, answers}
+use Rattle.isolation.specs.DomainRule.{Call, Look, Colours, names, outcome, run, own, Told, told, answers}
 use Rattle.isolation.specs.DomainRule.{SameColours, SameMap, Accepted, Empty, DomainRule}
-use Rattle.isolation.proofs.Unwinding.{runs, owns, heard, All₂, rule}
+use Rattle.isolation.proofs.Unwinding.{runs, owns, heard, rule}
 use Rattle.isolation.proofs.AcceptedBoard.{live, facts}
 use Rattle.isolation.proofs.Invariant.{free, reserved, Good, good}
 use Rattle.isolation.proofs.Agree.{Agree, agree-self, agree-back, agree-on}
@@ -59,17 +59,12 @@ left s r k = record { left-good = k .left-good; right-good = k .left-good; agree
 abbrev Shows : ℕ → State → State → Type 0
 Shows d s r = SameColours d s r × SameMap d s r
 
-join : (x y z : Told) → Same x z → Same y z → Same x y
-join x y z p q = (p .0 ∙ sym (q .0), List·Permᴰ·trans (p .1) (Permᴰ·symm (q .1)))
-
-module _ (P : Program) {b : Board} {t₀ : List ℕ} {d : ℕ} (below : d < b .domains) where
+module _ {b : Board} {t₀ : List ℕ} {d : ℕ} (below : d < b .domains) where
   own-step : (s r : State) (c : Call) → Related b t₀ d s r → names-it d c ≡ true
-      → Same (told P s c) (told P r c) × Related b t₀ d (step s c) (step r c)
+      → (told s c ≡ told r c) × Related b t₀ d (step s c) (step r c)
   own-step s r c k e =
-      let m = call-meets (k .left-good) (k .right-good) (k .agree) c (eqb-true (names c) d e) in
-      let ours = rw (m .moves) at (P .each-once s c (outcome s c .moves)) in
-      let theirs = P .each-once r c (outcome r c .moves) in (
-        (m .reply, rw (m .moves) (List·Permᴰ·trans ours (Permᴰ·symm theirs))),
+      let m = call-meets (k .left-good) (k .right-good) (k .agree) c (eqb-true (names c) d e) in (
+        simp (m .reply, m .moves),
         record {
           left-good = call-keeps (k .left-good) c .good-next;
           right-good = call-keeps (k .right-good) c .good-next;
@@ -96,10 +91,10 @@ module _ (P : Program) {b : Board} {t₀ : List ℕ} {d : ℕ} (below : d < b .d
       }
 
   shown : (s r s′ r′ : State) → Related b t₀ d s s′ → Related b t₀ d r r′
-      → ((c : Call) → names-it d c ≡ true → Same (told P s c) (told P r c)) → Shows d s′ r′
+      → ((c : Call) → names-it d c ≡ true → told s c ≡ told r c) → Shows d s′ r′
   shown s r s′ r′ k l same =
       let at-reply : (c : Call) → names-it d c ≡ true → outcome s′ c .reply ≡ outcome r′ c .reply = λ c e.
-      sym (own-step s s′ c k e .0 .0) ∙ same c e .0 ∙ own-step r r′ c l e .0 .0 in
+      ap (λ (a : Told). a .reply) (sym (own-step s s′ c k e .0) ∙ same c e ∙ own-step r r′ c l e .0) in
       (at-reply (Colours d) (eq-eqb d d refl), λ p small. at-reply (Look d p) (eq-eqb d d refl))
 
 -- the statement's own definitions are those of the unwinding
@@ -113,25 +108,19 @@ unfolding own owns
 own-is d [] = refl
 own-is d (c ∷ cs) = rw (own-is d cs)
 
-heard-is : (P : Program) (d : ℕ) (s : State) (h : List Call) → heard step (told P) (names-it d) s h ≡ answers P d s h
+heard-is : (d : ℕ) (s : State) (h : List Call) → heard step told (names-it d) s h ≡ answers d s h
 unfolding answers heard
-heard-is P d s [] = refl
-heard-is P d s (c ∷ cs) = rw (heard-is P d (step s c) cs)
-
-all-is : (xs ys : List Told) → All₂ Same xs ys ≡ AllSame xs ys
-all-is [] [] = refl
-all-is [] (y ∷ ys) = refl
-all-is (x ∷ xs) [] = refl
-all-is (x ∷ xs) (y ∷ ys) = rw (all-is xs ys)
+heard-is d s [] = refl
+heard-is d s (c ∷ cs) = rw (heard-is d (step s c) cs)
 
 -- its equation of own calls may stand either way round
 pub domain-rule : DomainRule
-domain-rule P start ok empty d below h k =
+domain-rule start ok empty d below h k =
     let g = start-good start ok empty in
     let self : Related (start .board) (start .table) d start start =
     record { left-good = g; right-good = g; agree = agree-self start } in
     let unwound =
-    rule step (told P) (names-it d) Same (Related (start .board) (start .table) d) (own-step P below) (other-step P below)
-    (Shows d) join left (reveal P below) (shown P below) start self h k in
+    rule step told (names-it d) (Related (start .board) (start .table) d) (own-step below) (other-step below)
+    (Shows d) left (reveal below) (shown below) start self h k in
     let r = simp (run-is, own-is, heard-is) at unwound in
-    (λ same. r .0 (λ l m e. rw all-is (same l m (cc))), λ w l m e. rw all-is at (r .1 w l m (cc)))
+    (λ same. r .0 (λ l m e. same l m (cc)), λ w l m e. r .1 w l m (cc))

@@ -2,7 +2,7 @@
 -- replayed alone, leave the same active colours and the same map from pages to frames.
 use Prim.Native.Nat.{ℕ, _<_, _≤_}
 use mathlib.Core.Bool.{true}
-use mathlib.Core.List.{List, [], _∷_, List·Permᴰ}
+use mathlib.Core.List.{List, [], _∷_}
 use mathlib.Core.Logic.{_⊎_, _↔_}
 use mathlib.Core.Path.{_≡_}
 use lib.Dec.{eqb}
@@ -11,7 +11,7 @@ use Rattle.lists.specs.Choice.{if_then_else_}
 use Rattle.refusal.specs.Reply.{Reply, passes}
 use Rattle.board.specs.Tests.{boardTests}
 use Rattle.calls.specs.Table.{State, word}
-use Rattle.calls.specs.Calls.{Answer, Move, Outcome, look, fault, release, colours, recolour}
+use Rattle.calls.specs.Calls.{Answer, Outcome, look, fault, release, colours, recolour, listed}
 
 -- A call: the domain that it names, any number, and a page for look, fault and release, a set and a move list of its own for recolour.
 pub data Call : Type 0 where
@@ -26,14 +26,14 @@ names (Look d p) = d
 names (Fault d p) = d
 names (Release d p) = d
 names (Colours d) = d
-names (Recolour d c lent) = d
+names (Recolour d c list) = d
 
 abbrev pub outcome : State → Call → Outcome
 outcome s (Look d p) = look s d p
 outcome s (Fault d p) = fault s d p
 outcome s (Release d p) = release s d p
 outcome s (Colours d) = colours s d
-outcome s (Recolour d c lent) = recolour s d c lent
+outcome s (Recolour d c list) = recolour s d c list
 
 -- A history is a list of calls. Each gets the board and table that the one before left; refused calls count.
 unfoldable pub run : State → List Call → State
@@ -45,39 +45,33 @@ unfoldable pub own : ℕ → List Call → List Call
 own d [] = []
 own d (c ∷ cs) = let rest = own d cs in if eqb (names c) d then c ∷ rest else rest
 
--- A program may write a call's triples in any order, and may choose it by everything that the call gets.
-pub record Program : Type 0 where
-  pub arrange : State → Call → List Move → List Move
-  pub each-once : (s : State) (c : Call) (ms : List Move) → List·Permᴰ (arrange s c ms) ms
+-- The move list lent to a call, which only recolour has.
+abbrev pub lent : Call → List ℕ
+lent (Look d p) = []
+lent (Fault d p) = []
+lent (Release d p) = []
+lent (Colours d) = []
+lent (Recolour d c list) = list
 
--- What a domain is told by an own call: the answer, or the refusal's number and row, and the triples. The board handed back is no part
--- of it. Two are the same where the replies are equal and the triples are, without their order.
+-- What a domain is told by an own call: the answer, or the refusal's number and row, and the move list as it stands afterwards, word by word
+-- (document 02, No. 4). The board handed back is no part of it.
 pub record Told : Type 0 where
   pub reply : Reply Answer
-  pub triples : List Move
+  pub list : List ℕ
 
-abbrev pub told : Program → State → Call → Told
-told P s c = record { reply = outcome s c .reply; triples = P .arrange s c (outcome s c .moves) }
-
-abbrev pub Same : Told → Told → Type 0
-Same a b = (a .reply ≡ b .reply) × List·Permᴰ (a .triples) (b .triples)
-
-abbrev pub AllSame : List Told → List Told → Type 0
-AllSame [] [] = Unit {0}
-AllSame [] (b ∷ bs) = ⊥
-AllSame (a ∷ as′) [] = ⊥
-AllSame (a ∷ as′) (b ∷ bs) = Same a b × AllSame as′ bs
+abbrev pub told : State → Call → Told
+told s c = record { reply = outcome s c .reply; list = listed (outcome s c .moves) (lent c) }
 
 -- What the domain's own calls of a list are told, in their order, when the list is run.
-unfoldable pub answers : Program → ℕ → State → List Call → List Told
-answers P d s [] = []
-answers P d s (c ∷ cs) =
-    let rest = answers P d (outcome s c .next) cs in if eqb (names c) d then told P s c ∷ rest else rest
+unfoldable pub answers : ℕ → State → List Call → List Told
+answers d s [] = []
+answers d s (c ∷ cs) =
+    let rest = answers d (outcome s c .next) cs in if eqb (names c) d then told s c ∷ rest else rest
 
 -- Two states look the same to a domain: of any two later lists with the same own calls, one run on after each, the own calls are told
 -- the same. Calls that name any other number may stand anywhere in either list and differ.
-abbrev pub LookTheSame : Program → ℕ → State → State → Type 0
-LookTheSame P d s r = (l m : List Call) → own d l ≡ own d m → AllSame (answers P d s l) (answers P d r m)
+abbrev pub LookTheSame : ℕ → State → State → Type 0
+LookTheSame d s r = (l m : List Call) → own d l ≡ own d m → answers d s l ≡ answers d r m
 
 -- The active colours, what the colours call answers; the map, what look answers for each page 0 to 4,095.
 abbrev pub SameColours : ℕ → State → State → Type 0
@@ -95,8 +89,8 @@ Empty s = (f : ℕ) → f < s .board .frames → (word (s .table) f ≡ 0) ⊎ (
 
 abbrev pub DomainRule : Type 0
 DomainRule =
-    (P : Program) (start : State) → Accepted start → Empty start
+    (start : State) → Accepted start → Empty start
     → (d : ℕ) → d < start .board .domains
     → (h k : List Call)
-    → LookTheSame P d (run start h) (run start k)
+    → LookTheSame d (run start h) (run start k)
     ↔ (SameColours d (run start (own d h)) (run start (own d k)) × SameMap d (run start (own d h)) (run start (own d k)))

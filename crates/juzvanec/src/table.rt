@@ -1,7 +1,7 @@
 // The five calls on the frame table for callers in C: document 01, "Board and frame table". The board
 // is lent as its 19 words, and recolour alone changes it.
 ghost use mathlib.Core.Path.{_≡_};
-ghost use Rattle.calls.specs.Calls.{look as lookCall, fault as faultCall, release as releaseCall, colours as coloursCall, recolour as recolourCall, Listed};
+ghost use Rattle.calls.specs.Calls.{look as lookCall, fault as faultCall, release as releaseCall, colours as coloursCall, recolour as recolourCall, listed};
 ghost use Rattle.marshal.specs.BoardWords.{wordsLeft, lent};
 ghost use Rattle.marshal.specs.Replies.{numberOf, rowOf, valueOf, numberIn, flagIn};
 use marshal::active;
@@ -99,7 +99,7 @@ pub extern "C" fn juzvanec_colours(
     told.number
 }
 
-// The count of moves; the triples stand in `moves`. The board's words are written only where the call
+// The count of moves; the triples stand in `moves`, in page order. The board's words are written only where the call
 // answers: then the domain's active set is the new one.
 #[no_mangle]
 pub extern "C" fn juzvanec_recolour(
@@ -116,7 +116,7 @@ pub extern "C" fn juzvanec_recolour(
     ensures { λ _. ⌜ now (row .exit) ≡ rowOf ((recolourCall (lent (now (board .entry)) (now (table .entry))) domain set (now (moves .entry))) .reply) ⌝ }
     ensures { λ _. ⌜ now (board .exit) ≡ wordsLeft (recolourCall (lent (now (board .entry)) (now (table .entry))) domain set (now (moves .entry))) (now (board .entry)) ⌝ }
     ensures { λ _. ⌜ now (table .exit) ≡ (recolourCall (lent (now (board .entry)) (now (table .entry))) domain set (now (moves .entry))) .next .table ⌝ }
-    ensures { λ _. ⌜ Listed ((recolourCall (lent (now (board .entry)) (now (table .entry))) domain set (now (moves .entry))) .moves) (now (moves .entry)) (now (moves .exit)) ⌝ }
+    ensures { λ _. ⌜ now (moves .exit) ≡ listed ((recolourCall (lent (now (board .entry)) (now (table .entry))) domain set (now (moves .entry))) .moves) (now (moves .entry)) ⌝ }
 {
     let done = frames::recolour(board_of(board), table, domain, set, moves);
     let answer = done.answer;

@@ -1,3 +1,4 @@
 -- The laws of `kept`.
 pub mod Closed
+pub mod Above
 pub mod Lanes

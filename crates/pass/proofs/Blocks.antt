@@ -1,34 +1,24 @@
 -- What is kept after the words of a block of at most sixteen frames, which starts at a multiple of sixteen, by what was learnt when they were read into
 -- an array: whether one of them matters, and the counts.
-use Prim.Native.Nat.{ℕ, suc, _+_, _%_, _<_, _≤_, suc-le-suc}
-use native.Mathlib.Nat.{add-zero}
+use Prim.Native.Nat.{ℕ, _+_, _%_, _<_, _≤_}
 use native.Mathlib.Omega.{arith}
 use mathlib.Core.Bool.{Bool, false, _&&_}
-use mathlib.Core.List.{List, [], _∷_, _++_}
-use mathlib.Core.Path.{_≡_, refl, sym, ap, ap₂, _∙_}
+use mathlib.Core.List.{List, _++_}
+use mathlib.Core.Path.{_≡_, sym, ap, ap₂, _∙_}
 use lib.Dec.{eqb}
 use lib.ListN.{length, getD, take, drop, replicate, List·getD-append}
-use lib.Seq.{take-at, set-getD}
-use borrow.Author.Tests.{eqb-false, ne-eqb}
+use lib.Seq.{take-at}
 use Rattle.lists.specs.Range.{upto, any, lowest}
 use Rattle.lists.proofs.Split.{neither}
 use Rattle.lists.proofs.Found.{any-none, none-lowest}
 use Rattle.lists.proofs.Same.{same-lowest}
-use Rattle.kept.specs.Kept.{isOwn, countIn, countAll, noteAll, takeAll, soFar, found}
+use Rattle.kept.specs.Kept.{isOwn, countAll, noteAll, takeAll, soFar, found}
 use Rattle.kept.proofs.Closed.{count-shift, note-quiet, has-come, not-come}
 use Rattle.pass.specs.Steps.{matters, AtBlock}
 
 -- a word stands at a place of a list
 abbrev pub isAt : ℕ → List ℕ → ℕ → Bool
 isAt w xs i = eqb (getD xs i 0) w
-
--- no word of a list is counted
-count-quiet : (p : ℕ → Bool) (lanes : List ℕ) (f : ℕ) (xs : List ℕ) → ((i : ℕ) → i < length xs → p (getD xs i 0) ≡ false) → countAll p lanes f xs ≡ lanes
-unfolding countAll countIn
-count-quiet p lanes f [] none = refl
-count-quiet p lanes f (x ∷ xs) none =
-    rw (none 0 (omega arith), add-zero (getD lanes (f % 16) 0), set-getD lanes (f % 16) 0)
-    (count-quiet p lanes (f + 1) xs (λ i l. none (suc i) (suc-le-suc l)))
 
 -- what is learnt of words that are read into an array of zeros: whether one matters, the domain's words counted, and the array
 abbrev pub Learnt : ℕ → ℕ → List ℕ → List ℕ → List ℕ → Bool → List ℕ → List ℕ → Type 0
@@ -48,15 +38,12 @@ module _
   alike : (p : ℕ → Bool) (lanes : List ℕ) → countAll p lanes 0 xs ≡ countAll p lanes taken xs
   alike p lanes = count-shift p lanes 0 taken xs (sym (at .aligned))
 
-  -- the lanes after its words: the domain's counted, the free frames noted, and others counted
+  -- the lanes after its words: the domain's counted, the free frames noted
   pub counts-are : counts ≡ countAll (isOwn first) held taken xs
   counts-are = learnt .1 .0 ∙ alike (isOwn first) held
 
   pub notes-are : (next : List ℕ) → next ≡ noteAll free taken (take filled block) → next ≡ noteAll free taken xs
   notes-are next e = e ∙ ap (noteAll free taken) front
-
-  pub others-are : (p : ℕ → Bool) (lanes next : List ℕ) → next ≡ countAll p lanes 0 (take filled block) → next ≡ countAll p lanes taken xs
-  others-are p lanes next e = e ∙ ap (countAll p lanes 0) front ∙ alike p lanes
 
   -- none of them matters
   module _ (quiet : stop ≡ false) where
@@ -70,9 +57,6 @@ module _
 
     no-word : lowest (isAt w xs) (length xs) ≡ length xs
     no-word = none-lowest (isAt w xs) (length xs) (λ i l. none i l .0)
-
-    pub others-stay : (lanes : List ℕ) → countAll (eqb w) lanes taken xs ≡ lanes
-    others-stay lanes = count-quiet (eqb w) lanes taken xs (λ i l. ne-eqb w (getD xs i 0) (λ e. eqb-false (getD xs i 0) w (none i l .0) (sym e)))
 
   -- what is kept in a fault
   word-is : lowest (isAt w block) filled ≡ lowest (isAt w xs) (length xs)

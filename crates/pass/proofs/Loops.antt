@@ -1,13 +1,13 @@
 -- The loops over the words of a block of at most sixteen frames, which starts at a multiple of sixteen: lane and place in the block are one number there.
 use Prim.Native.Nat.{ℕ, _+_, _-_, _%_, _<_, _≤_}
-use native.Mathlib.Nat.{add-zero}
+use native.Mathlib.Nat.{mod-eq-of-lt}
 use native.Mathlib.Omega.{arith}
 use mathlib.Core.Bool.{Bool, true, false, _&&_}
 use mathlib.Core.List.{List, [], _∷_, _++_}
 use mathlib.Core.Path.{_≡_, refl, sym, ap, ap₂, _∙_}
 use lib.Dec.{eqb}
 use lib.ListN.{length, getD, take, drop, set}
-use lib.Seq.{length-take-le, drop-cons, take-add, set-getD}
+use lib.Seq.{length-take-le, drop-cons, take-add}
 use Rattle.lists.specs.Choice.{if_then_else_}
 use Rattle.kept.specs.Kept.{Within, countIn, countAll, noteIn, noteAll}
 use Rattle.kept.proofs.Closed.{count-append, count-length, count-within, note-append, note-length, noted, not-noted}
@@ -32,6 +32,10 @@ module _ (into : List ℕ → ℕ → List ℕ → List ℕ) (append : (l : List
       let one : i + 1 - i ≡ 1 = omega arith in
       then-part l f xs i (i + 1) (omega arith) (omega arith)
       ∙ ap₂ (λ (n : ℕ) (r : List ℕ). into (into l f (take i xs)) (f + i) (take n r)) one (drop-cons xs i 0 h)
+
+pub one-at-most : (t : Bool) (r : ℕ) → r ≡ (if t then 1 else 0) → r ≤ 1
+one-at-most true r e = omega (arith, e)
+one-at-most false r e = omega (arith, e)
 
 -- a loop that counts the words of a block has come to word i
 module _ (p : ℕ → Bool) (lanes xs : List ℕ) where
@@ -61,11 +65,11 @@ module _ (p : ℕ → Bool) (lanes xs : List ℕ) where
           so-far = ap (λ (h : List ℕ). countAll p h (0 + i) (x ∷ [])) (r .so-far) ∙ sym (then-one (countAll p) (count-append p) lanes 0 xs i l);
         })
 
-    pub counted-hit : p x ≡ true → Counted (set now i (getD now i 0 + 1)) (i + 1)
-    counted-hit e = counted-next 1 (rw e)
-
-    pub counted-miss : p x ≡ false → Counted now (i + 1)
-    counted-miss e = rw (add-zero (getD now i 0), set-getD now i 0) at (counted-next 0 (rw e))
+    -- the remainder is the count itself
+    pub counted-less : (more : ℕ) → more ≡ (if p x then 1 else 0) → Counted (set now i ((getD now i 0 + more) % 8192)) (i + 1)
+    counted-less more e =
+        let small : getD now i 0 + more < 8192 = omega (arith, r .room i, one-at-most (p x) more e) in
+        rw (mod-eq-of-lt small) (counted-next more e)
 
 -- a loop that notes the free frames of a block has come to word i
 module _ (free : List ℕ) (f : ℕ) (xs : List ℕ) where

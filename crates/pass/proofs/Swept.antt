@@ -1,91 +1,56 @@
--- The survey under way: the words before the one it has come to are counted and noted. This is the invariant of the loop over the blocks, with its laws,
--- which know nothing of the code.
-use Prim.Native.Nat.{ℕ, _+_, _≤_}
+-- The survey under way: the words before the one it has come to are counted. This is the invariant of the loop over the blocks, with its laws, which know
+-- nothing of the code.
+use Prim.Native.Nat.{ℕ, _≤_}
 use native.Mathlib.Nat.{zero-add}
 use native.Mathlib.Omega.{arith}
-use mathlib.Core.Bool.{Bool, false}
-use mathlib.Core.List.{List, _++_}
+use mathlib.Core.Bool.{Bool}
+use mathlib.Core.List.{List}
 use mathlib.Core.Path.{_≡_, refl, sym, ap, ap₂, _∙_}
 use lib.Dec.{eqb}
 use lib.ListN.{length, take, length-take}
-use Rattle.kept.specs.Kept.{isOwn, zeros, Within, countAll, noteAll}
-use Rattle.kept.proofs.Closed.{count-append, count-length, count-within, note-append, zeros-length, zeros-within}
-use Rattle.pass.specs.Steps.{read, AtBlock, surveyOf}
+use Rattle.kept.specs.Kept.{isOwn, zeros, Within, countAll}
+use Rattle.kept.proofs.Closed.{count-append, count-length, count-shift, count-within, zeros-length, zeros-within}
+use Rattle.pass.specs.Steps.{read, surveyOf}
 use Rattle.pass.proofs.Loops.{part, then-part}
-use Rattle.pass.proofs.Blocks.{Learnt, counts-are, notes-are, others-are, notes-stay, others-stay}
 use Rattle.pass.proofs.Turns.{AtTurn, to-the-end}
 
-module _ (t : List ℕ) (low : ℕ) where
-  pub record Swept (held free count : List ℕ) (taken : ℕ) : Type 0 where
-    pub held-is : held ≡ countAll (isOwn low) zeros 0 (take taken t)
-    pub free-is : free ≡ noteAll zeros 0 (take taken t)
-    pub count-is : count ≡ countAll (eqb 0) zeros 0 (take taken t)
+-- words that pass a test, counted by lane before word `taken`
+module _ (p : ℕ → Bool) (t : List ℕ) where
+  pub record Tallied (lanes : List ℕ) (taken : ℕ) : Type 0 where
+    pub so-far : lanes ≡ countAll p zeros 0 (take taken t)
 
-  pub swept-start : Swept zeros zeros zeros 0
-  unfolding countAll noteAll
-  swept-start = record { held-is = refl; free-is = refl; count-is = refl }
+  pub tally-start : Tallied zeros 0
+  unfolding countAll
+  tally-start = record { so-far = refl }
 
-  -- no lane counts more than the words
-  few : (p : ℕ → Bool) (lanes : List ℕ) (taken : ℕ) → lanes ≡ countAll p zeros 0 (take taken t) → Within taken lanes
-  few p lanes taken e i = rw e (omega (arith, count-within p 0 zeros 0 (take taken t) (zeros-within 0) i, length-take taken t))
+  module _ {lanes : List ℕ} {taken : ℕ} (r : Tallied lanes taken) where
+    pub tally-size : 16 ≡ length lanes
+    tally-size = sym (ap length (r .so-far) ∙ count-length p zeros 0 (take taken t) ∙ zeros-length)
 
-  -- a lane after more words
-  on :
-      (into : List ℕ → ℕ → List ℕ → List ℕ) (append : (l : List ℕ) (f : ℕ) (xs ys : List ℕ) → into l f (xs ++ ys) ≡ into (into l f xs) (f + length xs) ys)
-      (lanes next : List ℕ) (a b : ℕ)
-      → a ≤ b
-      → a ≤ length t
-      → lanes ≡ into zeros 0 (take a t)
-      → next ≡ into lanes a (part t a b)
-      → next ≡ into zeros 0 (take b t)
-  on into append lanes next a b from k is e =
-      e
-      ∙ ap₂ (λ (l : List ℕ) (f : ℕ). into l f (part t a b)) is (sym (zero-add a))
-      ∙ sym (then-part into append zeros 0 t a b from k)
+    -- no lane counts more than the words
+    few : Within taken lanes
+    few i = rw (r .so-far) (omega (arith, count-within p 0 zeros 0 (take taken t) (zeros-within 0) i, length-take taken t))
 
-  module _ {held free count : List ℕ} {taken : ℕ} (r : Swept held free count taken) where
-    pub swept-size : length held ≡ 16
-    swept-size = ap length (r .held-is) ∙ count-length (isOwn low) zeros 0 (take taken t) ∙ zeros-length
+    module _ {end : ℕ} (turn : AtTurn t end taken) where
+      pub tally-few : Within 4096 lanes
+      tally-few i = omega (arith, few i, turn .ends, turn .within)
 
-    pub few-held : Within taken held
-    few-held = few (isOwn low) held taken (r .held-is)
-
-    pub few-free : Within taken count
-    few-free = few (eqb 0) count taken (r .count-is)
-
-    -- the words up to b were read
-    module _
-        {end : ℕ} (turn : AtTurn t end taken) (b : ℕ) (from : taken ≤ b) {filled : ℕ} (at : AtBlock taken filled) (full : filled ≡ length (part t taken b))
-        {stop : Bool} {counts block : List ℕ} (learnt : Learnt 0 low held free (part t taken b) stop counts block) where
-      abbrev words : List ℕ
-      words = part t taken b
-
-      further : (noted more : List ℕ) → noted ≡ noteAll free taken words → more ≡ countAll (eqb 0) count taken words → Swept counts noted more b
-      further noted more n m =
-          let k : taken ≤ length t = omega (arith, turn .ends, turn .within) in
+      -- the words up to b were counted, in a block that starts at a multiple of sixteen
+      pub tally-on : (b : ℕ) → taken ≤ b → (next : List ℕ) → next ≡ countAll p lanes 0 (part t taken b) → Tallied next b
+      tally-on b from next e =
           record {
-            held-is = on (countAll (isOwn low)) (count-append (isOwn low)) held counts taken b from k (r .held-is) (counts-are 0 low held free words at full learnt);
-            free-is = on noteAll note-append free noted taken b from k (r .free-is) n;
-            count-is = on (countAll (eqb 0)) (count-append (eqb 0)) count more taken b from k (r .count-is) m;
+            so-far =
+                e
+                ∙ count-shift p lanes 0 taken (part t taken b) (sym (turn .aligned))
+                ∙ ap₂ (λ (l : List ℕ) (f : ℕ). countAll p l f (part t taken b)) (r .so-far) (sym (zero-add taken))
+                ∙ sym (then-part (countAll p) (count-append p) zeros 0 t taken b from (omega (arith, turn .ends, turn .within)));
           }
 
-      -- the free frames are noted and counted
-      pub swept-past : (noted more : List ℕ) → noted ≡ noteAll free taken (take filled block) → more ≡ countAll (eqb 0) count 0 (take filled block) → Swept counts noted more b
-      swept-past noted more n m =
-          further noted more (notes-are 0 low held free words at full learnt noted n) (others-are 0 low held free words at full learnt (eqb 0) count more m)
+      pub tally-end : {all : List ℕ} → Tallied all end → all ≡ countAll p zeros 0 (read t)
+      tally-end all = all .so-far ∙ ap (countAll p zeros 0) (to-the-end t turn)
 
-      -- no word of them matters, so that no frame of them is free
-      pub swept-over : stop ≡ false → Swept counts free count b
-      swept-over quiet =
-          further free count (sym (notes-stay 0 low held free words at full learnt quiet)) (sym (others-stay 0 low held free words at full learnt quiet count))
-
-  -- all were
-  pub swept-end : {held free count : List ℕ} {end taken : ℕ} → Swept held free count end → AtTurn t end taken → record { held = held; free = free; count = count } ≡ surveyOf low (read t)
-  unfolding surveyOf
-  swept-end r turn =
-      let all = to-the-end t turn in
-      λ j. record {
-        held = (r .held-is ∙ ap (countAll (isOwn low) zeros 0) all) j;
-        free = (r .free-is ∙ ap (noteAll zeros 0) all) j;
-        count = (r .count-is ∙ ap (countAll (eqb 0) zeros 0) all) j;
-      }
+-- both lanes are what the survey gives
+pub surveyed : (low : ℕ) (t held free : List ℕ) → held ≡ countAll (isOwn low) zeros 0 (read t) → free ≡ countAll (eqb 0) zeros 0 (read t)
+    → record { held = held; free = free } ≡ surveyOf low (read t)
+unfolding surveyOf
+surveyed low t held free h f = λ j. record { held = h j; free = f j }

@@ -7,7 +7,7 @@ use mathlib.Core.Path.{_≡_}
 use lib.Dec.{eqb, ltb}
 use lib.ListN.{getD, take}
 use Rattle.lists.specs.Choice.{if_then_else_}
-use Rattle.kept.specs.Kept.{isOwn, zeros, countAll, noteAll}
+use Rattle.kept.specs.Kept.{isOwn, zeros, countAll}
 use Rattle.pass.specs.declared.lanes.Surveyed.{Surveyed}
 
 -- a table has at most 4,096 words, and the words of a domain that starts with the highest first word end with 65,535
@@ -27,6 +27,6 @@ pub record AtBlock (taken filled : ℕ) : Type 0 where
   pub few : filled ≤ 16
   pub counted : taken + filled ≤ 4096
 
--- by lane, the frames that the domain with this first word holds, the lowest free frame, and the free frames
+-- by lane, the frames that the domain with this first word holds, and the free frames
 unfoldable pub surveyOf : ℕ → List ℕ → Surveyed
-surveyOf first t = record { held = countAll (isOwn first) zeros 0 t; free = noteAll zeros 0 t; count = countAll (eqb 0) zeros 0 t }
+surveyOf first t = record { held = countAll (isOwn first) zeros 0 t; free = countAll (eqb 0) zeros 0 t }

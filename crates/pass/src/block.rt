@@ -13,7 +13,7 @@ ghost use Rattle.pass.specs.Steps.{matters, AtBlock};
 use kept::Kept;
 
 // 1 where a word is one of the domain's, else 0.
-fn is_own(word: u16, first: u16) -> u16
+pub(crate) fn is_own(word: u16, first: u16) -> u16
     requires { ⌜ first ≤ 61440 ⌝ }
     ensures { λ r. ⌜ r ≡ (if isOwn first word then 1 else 0) ⌝ }
 {

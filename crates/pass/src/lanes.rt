@@ -1,18 +1,17 @@
-// What a recolouring asks of the table before it starts, by lane, that is by a frame's number modulo sixteen:
-// the frames that the domain holds, the lowest free frame, and how many are free.
+// What a recolouring is judged by, counted by lane, that is by a frame's number modulo sixteen: the frames that
+// the domain holds, and the free ones.
 ghost use mathlib.Core.Path.{_≡_};
 ghost use Prim.Native.Nat.{_≤_};
 ghost use lib.Dec.{eqb};
-ghost use lib.ListN.{take};
-ghost use Rattle.kept.specs.Kept.{Within, countAll};
+ghost use lib.ListN.{length};
+ghost use Rattle.lists.specs.Choice.{if_then_else_};
+ghost use Rattle.kept.specs.Kept.{isOwn, Within, countAll};
 ghost use Rattle.pass.specs.Steps.{read, atMost, surveyOf};
-use crate::block::note;
-use crate::block::take_in;
+use crate::block::is_own;
 
 pub struct Surveyed {
     pub held: [u16; 16],
     pub free: [u16; 16],
-    pub count: [u16; 16],
 }
 
 // The lower of two numbers.
@@ -22,20 +21,27 @@ pub(crate) fn at_most(limit: usize, number: usize) -> usize
     if number < limit { number } else { limit }
 }
 
-// The free frames by lane, with those of a block.
-fn count_free(block: [u16; 16], filled: usize, count: [u16; 16]) -> [u16; 16]
-    requires { ⌜ (filled ≤ 16) × Within 4096 count ⌝ }
-    ensures { λ r. ⌜ r ≡ countAll (eqb 0) count 0 (take filled block) ⌝ }
+// 1 where a word is that of a free frame, else 0.
+fn is_free(word: u16) -> u16
+    ensures { λ r. ⌜ r ≡ (if eqb 0 word then 1 else 0) ⌝ }
 {
-    let mut next = count;
+    if word == 0 { 1 } else { 0 }
+}
+
+// Counts the words of a block, all lanes alike, so that the compiler counts them at once. No count reaches 8,192;
+// with the remainder the compiler leaves the order of the words as it is, which is faster.
+fn count_in(words: &[u16], first: u16, held: &mut [u16; 16], free: &mut [u16; 16])
+    requires { ⌜ (length (now words) ≤ 16) × (16 ≡ length (now held)) × (16 ≡ length (now free)) × (first ≤ 61440) × Within 4096 (now held) × Within 4096 (now free) ⌝ }
+    ensures { λ r. ⌜ now (held .exit) ≡ countAll (isOwn first) (now (held .entry)) 0 (now (words .entry)) ⌝ }
+    ensures { λ r. ⌜ now (free .exit) ≡ countAll (eqb 0) (now (free .entry)) 0 (now (words .entry)) ⌝ }
+{
     let mut i: usize = 0;
-    while i < filled {
-        if block[i] == 0 {
-            next[i] = next[i] + 1;
-        }
+    while i < words.len() {
+        let word = words[i];
+        held[i] = (held[i] + is_own(word, first)) % 8192;
+        free[i] = free[i] + is_free(word);
         i += 1;
     }
-    next
 }
 
 // The lanes of the whole table.
@@ -46,29 +52,11 @@ pub fn survey(table: &[u16], first: u16) -> Surveyed
     let end = at_most(4096, table.len());
     let mut held = [0u16; 16];
     let mut free = [0u16; 16];
-    let mut count = [0u16; 16];
     let mut taken: usize = 0;
     while 16 <= end - taken {
-        let mut block = [0u16; 16];
-        if take_in(
-            &table[taken..taken + 16],
-            0,
-            low,
-            &free,
-            &mut held,
-            &mut block,
-        ) {
-            free = note(block, 16, free, taken);
-            let counted = count_free(block, 16, count);
-            count = counted;
-        }
+        count_in(&table[taken..taken + 16], low, &mut held, &mut free);
         taken += 16;
     }
-    let mut block = [0u16; 16];
-    if take_in(&table[taken..end], 0, low, &free, &mut held, &mut block) {
-        free = note(block, end - taken, free, taken);
-        let counted = count_free(block, end - taken, count);
-        count = counted;
-    }
-    Surveyed { held, free, count }
+    count_in(&table[taken..end], low, &mut held, &mut free);
+    Surveyed { held, free }
 }

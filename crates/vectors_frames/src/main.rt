@@ -1,6 +1,6 @@
 // Answers the separate tool's vectors of the frame table: scripts of the five calls. The input is the
 // words that `vectors_input` reads; output.rt writes the lines of each call. Tables, boards and move
-// lists are compared by a hash, the triples by a sum that does not depend on their order.
+// lists are compared by a hash.
 use board::Board;
 use vectors_input::next_word;
 

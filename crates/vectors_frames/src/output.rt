@@ -68,21 +68,9 @@ pub fn board(after: Board) {
     part(b"board ", hash as u64);
 }
 
-// The sum of the hashes of so many triples, which does not depend on their order.
-fn triples(list: &[u16], count: u32) -> u64 {
-    let mut sum: u64 = 0;
-    let mut i: u32 = 0;
-    while i < count {
-        let at = 3 * (i as usize);
-        sum += hash_table(list, at, at + 3) as u64;
-        i += 1;
-    }
-    sum
-}
-
-// The triples of a recolouring, and the rest of its move list.
+// The triples of a recolouring as they stand in its move list, and the rest of the list.
 pub fn moves(list: &[u16], count: u32) {
     let end = 3 * (count as usize);
-    part(b" moves ", triples(list, count));
+    part(b" moves ", hash_table(list, 0, end) as u64);
     line(b" rest ", hash_table(list, end, list.len()));
 }

@@ -1,5 +1,5 @@
 //! Scripts of the five frame calls on sound and damaged boards and on all kinds of table content. After
-//! each call the reply, the table, the board, the moves and the rest of the move list are compared.
+//! each call the reply, the table, the board and the move list are compared, word by word.
 
 use reference::boards::{
     accepted, any_domain, any_page, any_set, any_word, empty_table, part_of, spoil,
@@ -48,14 +48,6 @@ fn expected(reply: Reply<Answer>) -> Raw {
     }
 }
 
-/// The triples in ascending order, since theirs is left open, and the rest.
-fn sorted(moves: &[u16], count: usize) -> (Vec<&[u16]>, &[u16]) {
-    let (triples, rest) = moves.split_at((3 * count).min(moves.len()));
-    let mut triples: Vec<&[u16]> = triples.chunks(3).collect();
-    triples.sort();
-    (triples, rest)
-}
-
 fn kind(call: &Call) -> &'static str {
     match call {
         Call::Look { .. } => "look",
@@ -89,17 +81,11 @@ pub fn compare(state: &mut State, call: &Call, tally: &mut Tally) {
     let found = run(call, &mut board, table.list_mut(), moves.list_mut());
     let mut list = list;
     let model = expected(state.call(call, &mut list));
-    let count = match call {
-        Call::Recolour { .. } => model.values[0] as usize,
-        _ => 0,
-    };
-    let outside = moves.difference("moves", moves.list());
     let differences = [
         unlike("reply", found, model),
         unlike("board", board, lent(&state.board)),
         table.difference("table", &state.table),
-        outside,
-        unlike("moves", sorted(moves.list(), count), sorted(&list, count)),
+        moves.difference("moves", &list),
     ];
     let differences = differences.into_iter().flatten();
     tally.count(kind(call), model.number, &(before, call), differences);

@@ -1,7 +1,7 @@
 //! The comparison at scale: the linked library, through its C interface, against the separate tool's own
-//! model, on faults at chosen lengths of the table, on tables of chosen shapes, and then on random cases from
-//! a seed. The last line is `N cases, D differences`; it fails where D is not 0, or where a kind of reply
-//! never occurs.
+//! model, on faults at chosen lengths of the table, on tables of chosen shapes, on recolourings with pages in
+//! chosen orders, and then on random cases from a seed. The last line is `N cases, D differences`; it fails
+//! where D is not 0, or where a kind of reply never occurs.
 
 mod even;
 mod frames;
@@ -9,6 +9,7 @@ mod inputs;
 mod interface;
 mod lengths;
 mod lent;
+mod order;
 mod pages;
 mod plans;
 mod tally;
@@ -78,6 +79,8 @@ fn compare(seed: u64, bound: &Bound) -> Tally {
     lengths::all(&mut tally);
     tally.lengths = tally.cases;
     even::all(&mut tally);
+    tally.shapes = tally.cases - tally.lengths;
+    order::all(&mut tally);
     tally.chosen = tally.cases;
     let start = Instant::now();
     while !bound.reached(&tally, start) {
@@ -91,6 +94,7 @@ fn compare(seed: u64, bound: &Bound) -> Tally {
         for _ in 0..3 {
             frames::script(&mut random, &mut tally);
             even::script(&mut random, &mut tally);
+            order::script(&mut random, &mut tally);
         }
         plans::parts(&mut random, &mut tally);
         for _ in 0..10 {

@@ -46,9 +46,11 @@ pub struct Short {
 #[derive(Default)]
 pub struct Tally {
     pub cases: u64,
-    /// The chosen ones among them, and of these the faults at chosen lengths of the table.
+    /// The chosen ones among them, and of these the faults at chosen lengths of the table and the calls on tables
+    /// of chosen shapes.
     pub chosen: u64,
     pub lengths: u64,
+    pub shapes: u64,
     pub differences: u64,
     pub rounds: Rounds,
     pub short: Short,
@@ -114,12 +116,13 @@ impl Tally {
         println!(
             "{all} rounds for {found} times, {most} at most for one, {at_bound} at a bound above 2"
         );
-        let shapes = self.chosen - self.lengths;
+        let orders = self.chosen - self.lengths - self.shapes;
         println!(
-            "{} faults at chosen lengths of the table, {shapes} calls on tables of chosen shapes",
-            self.lengths
+            "{} faults at chosen lengths of the table, {} calls on tables of chosen shapes, {orders} recolourings \
+             with pages in chosen orders",
+            self.lengths, self.shapes
         );
-        for count in [times, rounds, at_bound, self.lengths, shapes] {
+        for count in [times, rounds, at_bound, self.lengths, self.shapes, orders] {
             missing += u32::from(count == 0);
         }
         if missing > 0 {

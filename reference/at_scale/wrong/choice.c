@@ -421,8 +421,10 @@ uint32_t choosing_recolour(struct juzvanec_board *board, uint16_t *table, size_t
     if (number)
         return number;
     memcpy(table, before, kept_words * sizeof *before);
-    if (move_all(&sight, table, moves))
+    if (move_all(&sight, table, moves)) {
+        put_in_order(moves, *count);
         return number;
+    }
     memcpy(table, before, kept_words * sizeof *before);
     memcpy(moves, list, listed * sizeof *list);
     board->active[domain] = former;

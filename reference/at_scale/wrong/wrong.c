@@ -165,6 +165,8 @@ uint32_t juzvanec_recolour(struct juzvanec_board *board, uint16_t *table, size_t
 
     if (chooses())
         return choosing_recolour(board, table, table_words, domain, set, moves, move_words, count, row);
+    if (orders())
+        return ordering_recolour(board, table, table_words, domain, set, moves, move_words, count, row);
     number = right_recolour(board, table, table_words, domain, set, moves, move_words, count, row);
     if (number)
         return number;

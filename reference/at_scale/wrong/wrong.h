@@ -16,4 +16,9 @@ int chooses(void);
 extern __typeof__(juzvanec_fault) choosing_fault;
 extern __typeof__(juzvanec_recolour) choosing_recolour;
 
+/* Whether it is wrong in the order of moves, the call with that order, and the right order where it is not. */
+int orders(void);
+extern __typeof__(juzvanec_recolour) ordering_recolour;
+void put_in_order(uint16_t *moves, uint32_t count);
+
 #endif

@@ -2,7 +2,7 @@
 //! words, their count first. A script is the board (19 words), the table's length and words, the number of
 //! calls, and four words for each: operation, domain, page or set, length of the move list.
 
-use super::{board_words, even, hash, put, Set};
+use super::{board_words, even, hash, page_order, put, Set};
 use crate::boards::{
     accepted, any_domain, any_page, any_set, any_word, empty_table, part_of, spoil,
 };
@@ -13,7 +13,7 @@ use crate::readings::{self, lowest_first};
 use crate::reply::Reply;
 
 const LONGEST_TABLE: usize = 4200;
-const LONGEST_LIST: usize = 13_000;
+pub const LONGEST_LIST: usize = 13_000;
 const CALLS: [&str; 5] = ["look", "fault", "release", "colours", "recolour"];
 
 pub fn set(seed: u64) -> Set {
@@ -40,6 +40,9 @@ pub fn set(seed: u64) -> Set {
     let crowded = even::scripts(&mut random);
     even::assert_told_apart(&crowded);
     scripts.extend(crowded);
+    let listed = page_order::scripts(&mut random);
+    page_order::assert_told_apart(&listed);
+    scripts.extend(listed);
     put(&mut set, scripts.len());
     for script in &scripts {
         add(&mut set, script);
@@ -116,8 +119,8 @@ fn hash_short(words: &[u16]) -> u32 {
 }
 
 /// Writes a script and what its calls answer, each on the board and table that the one before left: the
-/// reply and a hash of the table; for a recolouring also one of the board, the sum of the triples' hashes,
-/// so that their order stays open, and a hash of the other words of the move list.
+/// reply and a hash of the table; for a recolouring also one of the board, one of the triples as they stand in
+/// the move list, and one of its other words.
 fn add(set: &mut Set, script: &Script) {
     assert!(script.start.table.len() <= LONGEST_TABLE);
     for word in board_words(&script.start.board) {
@@ -152,10 +155,10 @@ fn add(set: &mut Set, script: &Script) {
                 _ => 0,
             };
             let (triples, rest) = list.split_at(3 * moves);
-            let sum: u64 = triples.chunks(3).map(|t| u64::from(hash_short(t))).sum();
             let board = hash(board_words(&state.board));
             set.line(&format!(
-                "board {board} moves {sum} rest {}",
+                "board {board} moves {} rest {}",
+                hash_short(triples),
                 hash_short(rest)
             ));
         }

@@ -6,6 +6,7 @@ mod colours;
 mod even;
 mod frames;
 mod nested;
+mod page_order;
 mod plans;
 mod rounds;
 

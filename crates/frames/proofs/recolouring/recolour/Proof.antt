@@ -1,36 +1,125 @@
 -- `frames::recolouring::recolour` meets its contract: what a recolouring with the reply that was judged does (`Recolours`).
-use mathlib.Core.Path.{_≡_, sym, ap, _∙_}
+use Prim.Native.Nat.{ℕ, _<_, _≤_}
+use native.Mathlib.Omega.{arith}
+use mathlib.Core.Bool.{Bool, true, false}
+use mathlib.Core.List.{List}
+use mathlib.Core.Path.{_≡_, sym, ap, ap₂, _∙_}
 use lib.ListN.{length}
 use borrow.Author.Needs.{needs}
+use Rattle.lists.proofs.Same.{kept-le}
 use Rattle.refusal.specs.Reply.{Answers}
-use Rattle.calls.specs.Table.{stateOf}
+use Rattle.board.specs.Paper.{paperChecked}
+use Rattle.board.proofs.Passed.{Accepted}
+use Rattle.kept.specs.Lanes.{sumLanes}
+use Rattle.pass.specs.Steps.{surveyOf}
+use Rattle.pass.specs.declared.lanes.Surveyed.{Surveyed}
+use Rattle.calls.specs.Table.{stateOf, wordOf, inSet, isStray}
 use Rattle.calls.specs.Calls.{Moved}
 use Rattle.frames.specs.Paper.{paperMoved}
-use Rattle.frames.specs.Steps.{recolourReply}
-use Rattle.frames.proofs.Recolours.{refusal-meets, movable, recolour-meets}
+use Rattle.frames.specs.Steps.{setReply, weighed, recolourReply, sideOf}
+use Rattle.frames.proofs.Passes.{surveyed-is, strays-counted, frees-counted}
+use Rattle.frames.proofs.Recolours.{held, free, reply-refused, set-accepted, reply-weighed, refusal-meets, movable, recolour-meets}
 use Rattle.frames.proofs.recolouring.recolour.Statement.{statement}
 use Rattle.frames.proofs.recolouring.recolour.Tie as tie
 
--- the places of the code: the reply judged, the moves about to be made, and the entry
-abbrev entry : tie.After-judge → tie.Start
-entry c = c .before .before .before .before
+-- the places of the code: 2 to 9 passed, the table surveyed, the counts weighed, the moves about to be made; and the entry
+abbrev entry : tie.After-enum-told → tie.Start
+entry c = c .before .before .before .before .before
 
-abbrev judged : tie.After-struct-known → tie.After-judge
-judged c = c .before .before .before .before .before .before
+abbrev passed : tie.After-survey → tie.After-enum-told
+passed c = c .before .before .before .before
 
-abbrev moving : tie.After-with-active → tie.After-struct-known
+abbrev surveyed : tie.After-weigh → tie.After-survey
+surveyed c = c .before .before .before
+
+abbrev weighed-at : tie.After-move-all-arg2 → tie.After-weigh
+weighed-at c = c .before .before .before .before .before
+
+abbrev moving : tie.After-with-active → tie.After-move-all-arg2
 moving c = c .before .before .before .before .before .before
 
--- the count that was judged
-counted :
-    (c : tie.After-struct-known)
-    → let a = entry (judged c) .args in
-    recolourReply (stateOf (a .board) (a .table .now)) (a .domain) (a .set) (length (a .moves .now))
-    ≡ Answers (Moved (c .before .before .before .before .answer .given .0 .0))
-counted c = sym (judged c .judge .ensures) ∙ ap paperMoved (c .before .before .before .before .answer .given .1)
+passes-9 : (c : tie.After-enum-told) → let a = entry c .args in setReply (a .board) (length (a .table .now)) (a .domain) (a .set) ≡ Answers tt
+passes-9 c = sym (c .before .before .check-set .ensures) ∙ ap paperChecked (c .enum-told .given .1)
 
-judge-requires : tie.Need-judge-requires
-judge-requires c κs = search needs
+fine : (c : tie.After-enum-told) → let a = entry c .args in Accepted (a .board) (length (a .table .now)) (a .domain)
+fine c = let a = entry c .args in set-accepted (a .board) (a .table .now) (a .domain) (a .set) (passes-9 c)
+
+most : (c : tie.After-enum-told) → length (entry c .args .table .now) ≤ 4096
+most c = omega (arith, fine c .bounds)
+
+low : (c : tie.After-enum-told) → entry c .args .domain < 8
+low c = omega (arith, fine c .bounds, fine c .caller)
+
+-- what the survey gives
+lanes-are : (c : tie.After-survey) → let a = entry (passed c) .args in c .survey .result ≡ surveyOf (wordOf (a .domain) 0) (a .table .now)
+lanes-are c =
+    let a = entry (passed c) .args in
+    c .survey .ensures ∙ surveyed-is (a .table .now) (a .domain) (most (passed c)) (low (passed c)) _ (c .before .word-for .ensures)
+
+abbrev sum-of : tie.After-survey → Bool → List ℕ → ℕ
+sum-of c side lanes = let a = entry (passed c) .args in sumLanes (λ (i : ℕ). sideOf side (inSet (a .board .colours) (a .set) i)) lanes
+
+held-is : (c : tie.After-survey) → let a = entry (passed c) .args in sum-of c false (c .survey .result .held) ≡ length (held (a .board) (a .table .now) (a .domain) (a .set))
+unfolding surveyOf
+held-is c =
+    let a = entry (passed c) .args in
+    ap (λ (q : Surveyed). sum-of c false (q .held)) (lanes-are c)
+    ∙ strays-counted (a .table .now) (a .domain) (most (passed c)) (low (passed c)) (a .board .colours) (a .set) (fine (passed c) .passed .count)
+
+free-is : (c : tie.After-survey) → let a = entry (passed c) .args in sum-of c true (c .survey .result .free) ≡ length (free (a .board) (a .table .now) (a .domain) (a .set))
+unfolding surveyOf
+free-is c =
+    let a = entry (passed c) .args in
+    ap (λ (q : Surveyed). sum-of c true (q .free)) (lanes-are c)
+    ∙ frees-counted (a .table .now) (a .domain) (most (passed c)) (low (passed c)) (a .board .colours) (a .set) (fine (passed c) .passed .count)
+
+-- the answer is the call's
+judged : (c : tie.After-weigh) → let a = entry (passed (surveyed c)) .args in
+    paperMoved (c .weigh .result) ≡ recolourReply (stateOf (a .board) (a .table .now)) (a .domain) (a .set) (length (a .moves .now))
+judged c =
+    let w = surveyed c in
+    let a = entry (passed w) .args in
+    c .weigh .ensures
+    ∙ ap₂ (λ (k g : ℕ). weighed k g (length (a .moves .now))) (held-is w) (free-is w)
+    ∙ sym (reply-weighed (a .board) (a .table .now) (a .domain) (a .set) (passes-9 (passed w)) (length (a .moves .now)))
+
+-- the count that it has
+counted :
+    (c : tie.After-move-all-arg2)
+    → let a = entry (passed (surveyed (weighed-at c))) .args in
+    recolourReply (stateOf (a .board) (a .table .now)) (a .domain) (a .set) (length (a .moves .now))
+    ≡ Answers (Moved (c .before .before .before .answer .given .0 .0))
+counted c = sym (judged (weighed-at c)) ∙ ap paperMoved (c .before .before .before .answer .given .1)
+
+check-set-requires : tie.Need-check-set-requires
+check-set-requires c κs = search needs
+
+enum-known-refusal : tie.Need-enum-known-refusal
+enum-known-refusal c = search needs
+
+returns : tie.Need-returns
+returns c =
+    let a = c .before .before .before .before .before .before .args in
+    refusal-meets (a .board) (a .table .now) (a .domain) (a .set) (a .moves .now) _ _
+    (reply-refused (a .board) (a .table .now) (a .domain) (a .set) (length (a .moves .now)) _ _ (sym (c .before .before .before .check-set .ensures) ∙ ap paperChecked (c .before .refusal .given .1)))
+
+enum-told : tie.Need-enum-told
+enum-told c = search needs
+
+cast-colours : tie.Need-cast-colours
+cast-colours c = search needs
+
+word-for-requires : tie.Need-word-for-requires
+word-for-requires c κs = (low (c .before .before), omega arith)
+
+survey-requires : tie.Need-survey-requires
+survey-requires c κs = search needs
+
+weigh-requires : tie.Need-weigh-requires
+weigh-requires c κs =
+    let w = c .before .before in
+    let a = entry (passed w) .args in
+    (fine (passed w) .passed .count, omega (arith, held-is w, kept-le (isStray (a .table .now) (a .board .colours) (a .domain) (a .set)) (length (a .table .now)) 0, most (passed w)))
 
 enum-known-answer : tie.Need-enum-known-answer
 enum-known-answer c = search needs
@@ -38,16 +127,12 @@ enum-known-answer c = search needs
 cast-move-all : tie.Need-cast-move-all
 cast-move-all c = search needs
 
-cast-move-all-2 : tie.Need-cast-move-all-2
-cast-move-all-2 c = search needs
-
 move-all-requires : tie.Need-move-all-requires
-move-all-requires c κs = movable _ _ _ _ _ _ (counted c)
+unfolding surveyOf
+move-all-requires c κs = (movable _ _ _ _ _ _ (counted c), ap (λ (q : Surveyed). q .held) (lanes-are (surveyed (weighed-at c))))
 
 with-active-requires : tie.Need-with-active-requires
-with-active-requires c κs =
-    let w = c .before .before .before .before .before in
-    movable _ _ _ _ (entry (judged w) .args .moves .now) _ (counted w) .domain
+with-active-requires c κs = low (passed (surveyed (weighed-at (c .before .before .before .before .before))))
 
 same-length : tie.Need-same-length
 same-length c = search needs
@@ -55,34 +140,39 @@ same-length c = search needs
 same-length-2 : tie.Need-same-length-2
 same-length-2 c = search needs
 
-returns : tie.Need-returns
-returns c =
-    recolour-meets _ _ _ _ _ _ (counted (moving c)) _ _ _ (c .with-active .ensures) (c .before .before .before .before .before .move-all .ensures)
+returns-2 : tie.Need-returns-2
+returns-2 c = recolour-meets _ _ _ _ _ _ (counted (moving c)) _ _ _ (c .with-active .ensures) (c .before .before .before .before .before .move-all .ensures)
 
-enum-told : tie.Need-enum-told
-enum-told c = search needs
+enum-told-2 : tie.Need-enum-told-2
+enum-told-2 c = search needs
 
 same-length-3 : tie.Need-same-length-3
 same-length-3 c = search needs
 
-returns-2 : tie.Need-returns-2
-returns-2 c =
-    let told = c .enum-told .given .1 in
-    rw told (refusal-meets _ _ _ _ _ _ _ (sym (c .before .before .judge .ensures) ∙ ap paperMoved told))
+returns-3 : tie.Need-returns-3
+returns-3 c =
+    let told = c .enum-told2 .given .1 in
+    rw told (refusal-meets _ _ _ _ _ _ _ (sym (judged (c .before .before)) ∙ ap paperMoved told))
 
 pub recolour-spec : {M : Type 1} → statement M
 recolour-spec =
     tie.close
     (tie.spec
-    judge-requires
+    check-set-requires
+    enum-known-refusal
+    returns
+    enum-told
+    cast-colours
+    word-for-requires
+    survey-requires
+    weigh-requires
     enum-known-answer
     cast-move-all
-    cast-move-all-2
     move-all-requires
     with-active-requires
     same-length
     same-length-2
-    returns
-    enum-told
+    returns-2
+    enum-told-2
     same-length-3
-    returns-2)
+    returns-3)

@@ -1,42 +1,31 @@
--- `frames::scan::is_stray` meets its contract, test by test.
-use Prim.Native.Nat.{_≤_, _<_}
-use native.Mathlib.Omega.{arith}
+-- `frames::scan::is_stray` meets its contract: how far a word lies above the first one, modulo 65,536, and the two limits.
+use Prim.Native.Nat.{ℕ, zero-le}
+use mathlib.Core.Bool.{and-false, and-true}
 use mathlib.Core.Logic.{⊎-elim}
-use mathlib.Core.Path.{_≡_, sym, ap, _∙_}
-use mathlib.Core.Bool.{not}
-use lib.Dec.{leb}
-use borrow.Author.Tests.{le-leb, lt-leb}
+use mathlib.Core.Path.{sym, _∙_}
 use borrow.Author.Needs.{needs}
-use Rattle.calls.specs.Table.{wordOf, isOf}
+use borrow.Author.Tests.{le-ltb}
+use Rattle.kept.specs.Kept.{isOwn}
+use Rattle.kept.proofs.Above.{own-above}
 use Rattle.frames.proofs.scan.is_stray.Statement.{statement}
 use Rattle.frames.proofs.scan.is_stray.Tie as tie
 
-held : (c : tie.Joined1) → c .if1 .if2 ≡ isOf (c .before .before .args .domain) (c .before .before .args .word)
-held c =
-    let a = c .before .before .args in
-    let first = c .before .word-for .ensures in
-    ⊎-elim
-    (λ w.
-    let low : wordOf (a .domain) 0 ≤ a .word = omega (arith, first, w .0 .taken) in
-    w .2 ∙ ap (leb (a .word)) (w .1 .ensures) ∙ simp (le-leb _ _ low))
-    (λ w. let high : a .word < wordOf (a .domain) 0 = omega (arith, first, w .0 .left) in w .1 ∙ simp (lt-leb _ _ (w .0 .left), lt-leb _ _ high))
-    (c .if1 .came)
-
-word-for-requires : tie.Need-word-for-requires
-word-for-requires c κs = search needs
-
-word-for-requires-2 : tie.Need-word-for-requires-2
-word-for-requires-2 c κs = search needs
-
-in-set-requires : tie.Need-in-set-requires
-in-set-requires c κs = search needs
+wrapping-sub-u16-requires : tie.Need-wrapping-sub-u16-requires
+wrapping-sub-u16-requires c κs = search needs
 
 returns : tie.Need-returns
-returns c = rw (sym (held (c .before .before)) ∙ c .before .if2 .taken) (ap not (c .in-set .ensures))
-
-returns-2 : tie.Need-returns-2
-returns-2 c = rw (sym (held (c .before)) ∙ c .if2 .left) (c .if2 .left)
+returns c =
+    let r : ℕ = c .wrapping-sub-u16 .result in
+    let o = isOwn (c .before .args .first) (c .before .args .word) in
+    let own = own-above r _ _ (search needs) (c .before .pre .0) (c .wrapping-sub-u16 .ensures) in
+    ⊎-elim
+    (λ e. rw e (le-ltb r 0 zero-le ∙ sym (and-false o)))
+    (λ e. rw e (own ∙ sym (and-true o)))
+    (c .before .pre .1)
 
 pub is-stray-spec : {M : Type 1} → statement M
 is-stray-spec =
-    tie.close (tie.spec word-for-requires word-for-requires-2 in-set-requires returns returns-2)
+    tie.close
+    (tie.spec
+    wrapping-sub-u16-requires
+    returns)

@@ -3,7 +3,7 @@ use mathlib.Core.Path.{ap, _∙_}
 use Rattle.refusal.specs.Reply.{Reply}
 use Rattle.board.specs.declared.Board.{Board}
 use Rattle.calls.specs.Table.{stateOf}
-use Rattle.calls.specs.Calls.{Answer, Outcome, withActive, recolour as recolourCall}
+use Rattle.calls.specs.Calls.{Answer, Outcome, withActive, recolour as recolourCall, listed}
 use Rattle.marshal.specs.BoardWords.{boardOf, wordsAfter}
 use Rattle.marshal.specs.Replies.{numberIn, flagIn}
 use Rattle.marshal.proofs.Lent.{words-left}
@@ -38,12 +38,13 @@ returns c =
     let done = c .before .before .before .before .before .before .before .recolour .ensures in
     let reply = done .0 ∙ ap (λ (o : Outcome). o .reply) same in
     let table = done .1 .1 .0 ∙ ap (λ (o : Outcome). o .next .table) same in
+    let list = done .1 .1 .1 ∙ ap (λ (o : Outcome). listed (o .moves) (a .moves .now)) same in
     let words =
     c .write-recoloured .ensures
     ∙ ap (λ (p : Reply Answer). wordsAfter p (withActive (boardOf (a .board .now)) (a .domain) (a .set)) (a .board .now)) reply
     ∙ words-left (a .board .now) (a .table .now) (a .moves .now) (a .domain) (a .set) in
     let t = told-same numberIn flagIn (c .before .before .moved .ensures) reply in
-    (t .number, (t .value, (t .row, (words, (table, rw same at (done .1 .1 .1))))))
+    (t .number, (t .value, (t .row, (words, (table, list)))))
 
 pub juzvanec-recolour-spec : {M : Type 1} → statement M
 juzvanec-recolour-spec =

@@ -8,12 +8,11 @@ use mathlib.Core.Path.{_≡_, refl, sym, ap, ap₂, _∙_}
 use lib.Dec.{eqb}
 use lib.ListN.{length, getD, take, drop, set, length-set}
 use lib.Seq.{take-all}
-use Rattle.lists.specs.Choice.{if_then_else_}
 use Rattle.lists.proofs.Sought.{anyAhead, any-start, Asked, asked-next, asked-end}
 use Rattle.lists.proofs.Written.{write-next}
 use Rattle.kept.specs.Kept.{isOwn, countAll}
 use Rattle.pass.specs.Steps.{matters}
-use Rattle.pass.proofs.Loops.{Counted, counted-start, counted-next}
+use Rattle.pass.proofs.Loops.{Counted, counted-start, counted-next, one-at-most}
 use Rattle.pass.proofs.block.take_in.Statement.{statement}
 use Rattle.pass.proofs.block.take_in.Tie as tie
 
@@ -38,10 +37,6 @@ entry c = turn c .before .before
 either : (a b c : Bool) → (a || (b || c)) ≡ ((a || b) || c)
 either true b c = refl
 either false b c = refl
-
-one-at-most : (t : Bool) (r : ℕ) → r ≡ (if t then 1 else 0) → r ≤ 1
-one-at-most true r e = omega (arith, e)
-one-at-most false r e = omega (arith, e)
 
 loop-holds : tie.Need-loop-holds Inv-loop μ-loop
 loop-holds c =

@@ -1,0 +1,53 @@
+-- `frames::scan::limits_of` meets its contract. The invariant: the lanes passed have their limit.
+use Prim.Native.Nat.{_-_, _≤_}
+use native.Mathlib.Omega.{arith}
+use borrow.Author.Needs.{needs}
+use Rattle.frames.specs.Steps.{limitOf}
+use Rattle.frames.proofs.Filled.{Filled, fill-start, fill-next}
+use Rattle.frames.proofs.scan.limits_of.Statement.{statement}
+use Rattle.frames.proofs.scan.limits_of.Tie as tie
+
+abbrev Inv-loop : tie.InvT-loop
+Inv-loop colours set limits₀ lane₀ limits lane = (lane ≤ 16) × Filled (limitOf colours set) 0 limits lane
+
+abbrev μ-loop : tie.MeasureT-loop
+μ-loop colours set limits₀ lane₀ limits lane = 16 - lane
+
+loop-holds : tie.Need-loop-holds Inv-loop μ-loop
+loop-holds c = (omega arith, fill-start _ 0)
+
+limit-of-requires : tie.Need-limit-of-requires Inv-loop μ-loop
+limit-of-requires c κs = search needs
+
+mul-limits : tie.Need-mul-limits Inv-loop μ-loop
+mul-limits c = omega arith
+
+array-write-limits : tie.Need-array-write-limits Inv-loop μ-loop
+array-write-limits c = omega arith
+
+add-lane : tie.Need-add-lane Inv-loop μ-loop
+add-lane c = omega arith
+
+loop-less : tie.Need-loop-less Inv-loop μ-loop
+loop-less c = omega arith
+
+loop-again : tie.Need-loop-again Inv-loop μ-loop
+loop-again c = (omega arith, fill-next _ 0 _ (c .before .before .loop .inv .1) (omega arith) (c .limit-of .ensures))
+
+returns : tie.Need-returns Inv-loop μ-loop
+returns c = λ i l. c .before .loop .inv .1 .front i (omega arith)
+
+pub limits-of-spec : {M : Type 1} → statement M
+limits-of-spec =
+    tie.close
+    (tie.spec
+    Inv-loop
+    μ-loop
+    loop-holds
+    limit-of-requires
+    mul-limits
+    array-write-limits
+    add-lane
+    loop-less
+    loop-again
+    returns)
