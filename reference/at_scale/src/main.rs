@@ -20,17 +20,24 @@ use std::time::{Duration, Instant};
 use reference::random::Random;
 use tally::{unlike, Tally};
 
-const USAGE: &str = "usage: at_scale [SEED] [CASES | SECONDSs]
-  at_scale 7 500000   stops after 500,000 random cases or a few more
-  at_scale 7 20s      stops after 20 seconds";
+const USAGE: &str = "usage: at_scale [SEED] [CASES | SECONDSs] [first]
+  at_scale 7 500000         stops after 500,000 random cases or a few more
+  at_scale 7 20s            stops after 20 seconds
+  at_scale 7 500000 first   stops soon after the first difference, too";
 
 const SEED: u64 = 2003;
 const CASES: u64 = 30_000_000;
 
-/// How long to go on.
+/// How long to go on at most.
 enum Bound {
     Cases(u64),
     Time(Duration),
+}
+
+/// How long to go on, and whether a difference is enough.
+struct Until {
+    bound: Bound,
+    first: bool,
 }
 
 impl Bound {
@@ -52,10 +59,17 @@ impl Bound {
     }
 }
 
+impl Until {
+    fn found(&self, tally: &Tally) -> bool {
+        self.first && tally.differences > 0
+    }
+}
+
 fn main() -> ExitCode {
     let words: Vec<String> = std::env::args().skip(1).collect();
     let words: Vec<&str> = words.iter().map(String::as_str).collect();
-    let given = match words.as_slice() {
+    let first = words.last() == Some(&"first");
+    let given = match &words[..words.len() - usize::from(first)] {
         [] => Some((SEED, Bound::Cases(CASES))),
         [seed] => seed.parse().ok().map(|seed| (seed, Bound::Cases(CASES))),
         [seed, bound] => seed.parse().ok().zip(Bound::read(bound)),
@@ -66,24 +80,28 @@ fn main() -> ExitCode {
         return ExitCode::from(2);
     };
     println!("seed {seed}");
-    match compare(seed, &bound).report() {
+    match compare(seed, &Until { bound, first }).report() {
         true => ExitCode::SUCCESS,
         false => ExitCode::FAILURE,
     }
 }
 
 /// The chosen cases, then random ones of all kinds in turn until the bound is reached.
-fn compare(seed: u64, bound: &Bound) -> Tally {
+fn compare(seed: u64, until: &Until) -> Tally {
     let mut random = Random::new(seed);
     let mut tally = Tally::default();
     lengths::all(&mut tally);
     tally.lengths = tally.cases;
-    even::all(&mut tally);
+    if !until.found(&tally) {
+        even::all(&mut tally);
+    }
     tally.shapes = tally.cases - tally.lengths;
-    order::all(&mut tally);
+    if !until.found(&tally) {
+        order::all(&mut tally);
+    }
     tally.chosen = tally.cases;
     let start = Instant::now();
-    while !bound.reached(&tally, start) {
+    while !until.bound.reached(&tally, start) && !until.found(&tally) {
         let number = unlike("number", interface::number(), juzvanec::INTERFACE);
         tally.count("interface", 0, &(), number);
         for _ in 0..10 {
