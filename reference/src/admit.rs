@@ -3,7 +3,7 @@
 
 use std::fmt;
 
-use crate::frames::{Board, DOMAINS};
+use crate::frames::{Board, DOMAINS, QUOTA};
 use crate::plans::{Plan, TASKS, TASK_WORDS, VCPUS, VCPU_WORDS};
 
 /// The bytes that are still to be read.
@@ -48,6 +48,7 @@ pub fn read(bytes: &[u8]) -> Option<Plan> {
         domains: domains as u32,
         grants,
         active: grants,
+        quotas: [QUOTA; DOMAINS],
     };
     input.0.is_empty().then_some(Plan {
         board,

@@ -2,7 +2,7 @@
 //! at scale. The terms are those of document 01, "Board and frame table".
 
 use crate::cache::colours;
-use crate::frames::{word, Board, DOMAINS, FREE, PAGES, RESERVED};
+use crate::frames::{frames_held, word, Board, DOMAINS, FREE, PAGES, QUOTA, RESERVED};
 use crate::random::Random;
 
 /// A nonempty part of the set, unless it is empty.
@@ -15,7 +15,7 @@ pub fn part_of(random: &mut Random, set: u32) -> u32 {
 }
 
 /// A board that passes 2 to 7, given at least as many colours as domains. Some colours may be
-/// nobody's, and the fields of domains beyond the count hold anything.
+/// nobody's, and the sets of domains beyond the count hold anything. Quotas are those at first.
 pub fn accepted(random: &mut Random, n: u32, frames: u32, domains: u32) -> Board {
     let mut order: Vec<u32> = (0..n).collect();
     random.shuffle(&mut order);
@@ -46,6 +46,7 @@ pub fn accepted(random: &mut Random, n: u32, frames: u32, domains: u32) -> Board
         domains,
         grants,
         active,
+        quotas: [QUOTA; DOMAINS],
     }
 }
 
@@ -66,6 +67,68 @@ pub fn spoil(random: &mut Random, board: &mut Board, number: u32, row: u32) {
             let outside = 1 << random.pick(&colours(!board.grants[here]));
             board.active[here] = random.pick(&[0, outside, board.active[here] | outside]);
         }
+    }
+}
+
+/// Quotas of a board that 26 refuses: beside the limits, with low bits that are a quota, and near 2^32.
+pub const NO_QUOTAS: [u32; 12] = [
+    0,
+    QUOTA + 1,
+    QUOTA + 2,
+    2 * QUOTA,
+    1 << 16,
+    (1 << 16) + 1,
+    (1 << 16) + QUOTA,
+    (1 << 24) + 5,
+    1 << 31,
+    (1 << 31) + 9,
+    u32::MAX - QUOTA + 1,
+    u32::MAX,
+];
+
+/// A quota that 26 accepts, as a rule about as many frames as the domain holds.
+pub fn any_quota(random: &mut Random, held: usize) -> u32 {
+    let held = held as u32;
+    let few = 1 + random.below(6) as u32;
+    let any = 1 + random.below(QUOTA.into()) as u32;
+    let below = [held.saturating_sub(1), held / 2];
+    let near = [held, held, held + 1, held + 2, below[0], below[1]];
+    let quota = match random.below(3) {
+        0 => random.pick(&[1, few, few, QUOTA, any]),
+        _ => random.pick(&near),
+    };
+    quota.clamp(1, QUOTA)
+}
+
+/// Gives the board quotas that 26 accepts, with anything in the fields of domains beyond the count.
+pub fn limit(random: &mut Random, board: &mut Board, table: &[u16]) {
+    for domain in 0..DOMAINS {
+        let held = frames_held(table, domain as u32);
+        board.quotas[domain] = match (domain as u32) < board.domains {
+            true => any_quota(random, held),
+            false => {
+                let any = [random.pick(&NO_QUOTAS), held as u32, QUOTA, random.word()];
+                random.pick(&any)
+            }
+        };
+    }
+}
+
+/// A quota to ask for: beside the frames held, F and the old one as a rule, at times one that is none.
+pub fn asked_quota(random: &mut Random, board: &Board, held: usize, domain: u32) -> u32 {
+    let held = held as u32;
+    let old = *board.quotas.get(domain as usize).unwrap_or(&QUOTA);
+    let low_bits = (1 << 16) + held + 1;
+    let any = 1 + random.below(QUOTA.into()) as u32;
+    match random.below(12) {
+        0 => random.pick(&NO_QUOTAS),
+        1 => random.pick(&[0, QUOTA + 1, u32::MAX, low_bits]),
+        2 => random.pick(&[1, QUOTA, any]),
+        3 => random.pick(&[board.frames, board.frames.wrapping_add(1)]),
+        4 => old,
+        5 | 6 => held.saturating_sub(1),
+        7 | 8 => held,
+        _ => held + random.below(4) as u32,
     }
 }
 

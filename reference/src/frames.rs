@@ -1,6 +1,6 @@
-//! The board, the frame table and its five calls: document 01, "Board and frame table", with refusals 2
-//! to 14 of "Refusals in the order tested", the choice of a free frame of document 02, No. 7, and the order of
-//! moves of No. 4. Each call is defined for every board, table and number.
+//! The board, the frame table and its calls: document 01, "Board and frame table", with refusals 2 to 14 of
+//! "Refusals in the order tested", and of document 02 the choice of a free frame of No. 7, the order of moves of
+//! No. 4 and the quotas of No. 6 with refusals 26 to 28. Each call is defined for every board, table and number.
 
 use std::collections::VecDeque;
 use std::fmt;
@@ -11,12 +11,14 @@ use crate::reply::Reply;
 pub const DOMAINS: usize = 8;
 pub const FRAMES: u32 = 4096;
 pub const PAGES: u32 = 4096;
+/// The highest quota, which each domain has at first.
+pub const QUOTA: u32 = 4096;
 
 pub const FREE: u16 = 0;
 /// Held for the hypervisor; the only word besides 0 in an empty table.
 pub const RESERVED: u16 = 65_535;
 
-/// Grants and active sets of domains at or beyond the count are neither read nor changed.
+/// Grants, active sets and quotas of domains at or beyond the count are neither read nor changed.
 #[derive(Clone, Debug, PartialEq, Eq)]
 pub struct Board {
     pub colours: u32,
@@ -24,6 +26,7 @@ pub struct Board {
     pub domains: u32,
     pub grants: [u32; DOMAINS],
     pub active: [u32; DOMAINS],
+    pub quotas: [u32; DOMAINS],
 }
 
 #[derive(Clone, Copy, Debug, PartialEq, Eq)]
@@ -33,8 +36,9 @@ pub enum Answer {
     Old(usize),
     New(usize),
     Freed(usize),
-    Active(u32),
+    Active { set: u32, quota: u32 },
     Moved(usize),
+    Quota(u32),
 }
 
 impl fmt::Display for Answer {
@@ -45,8 +49,9 @@ impl fmt::Display for Answer {
             Answer::Old(frame) => write!(f, "old {frame}"),
             Answer::New(frame) => write!(f, "new {frame}"),
             Answer::Freed(frame) => write!(f, "freed {frame}"),
-            Answer::Active(set) => write!(f, "active {set}"),
+            Answer::Active { set, quota } => write!(f, "active {set} quota {quota}"),
             Answer::Moved(count) => write!(f, "moved {count}"),
+            Answer::Quota(quota) => write!(f, "quota {quota}"),
         }
     }
 }
@@ -101,15 +106,25 @@ pub fn refused_board(board: &Board, table: Option<&[u16]>) -> Option<(u32, u32)>
     Some((7, row))
 }
 
-/// Refusals 2 to 8.
+/// Whether no domain may have this quota: it is 0 or above 4,096.
+pub fn no_quota(quota: u32) -> bool {
+    quota == 0 || quota > QUOTA
+}
+
+/// Refusals 2 to 7, 26 and 8, with which each call begins. Admission does not test 26, so that it is not of
+/// `refused_board`.
 fn refused_caller(board: &Board, table: &[u16], domain: u32) -> Option<Reply<Answer>> {
     if let Some((number, row)) = refused_board(board, Some(table)) {
         return Some(Reply::Refused { number, row });
     }
+    let quotas = &board.quotas[..board.domains as usize];
+    if quotas.iter().any(|quota| no_quota(*quota)) {
+        return Some(Reply::refused(26));
+    }
     (domain >= board.domains).then_some(Reply::refused(8))
 }
 
-/// Refusals 2 to 8 and 10.
+/// Refusals 2 to 7, 26, 8 and 10.
 fn refused_page(board: &Board, table: &[u16], domain: u32, page: u32) -> Option<Reply<Answer>> {
     refused_caller(board, table, domain).or((page >= PAGES).then_some(Reply::refused(10)))
 }
@@ -119,6 +134,12 @@ fn mapped(table: &[u16], domain: u32, page: u32) -> Option<usize> {
     table
         .iter()
         .position(|held| u64::from(*held) == word(domain, page))
+}
+
+/// How many frames the domain holds, for whatever pages and of whatever colours: a page in two frames counts twice.
+pub fn frames_held(table: &[u16], domain: u32) -> usize {
+    let own = |held: &&u16| page_held(domain, **held).is_some();
+    table.iter().filter(own).count()
 }
 
 /// What the choice of a free frame goes by.
@@ -183,6 +204,9 @@ pub fn fault(board: &Board, table: &mut [u16], domain: u32, page: u32) -> Reply<
     if let Some(frame) = mapped(table, domain, page) {
         return Reply::Answer(Answer::Old(frame));
     }
+    if frames_held(table, domain) >= board.quotas[domain as usize] as usize {
+        return Reply::refused(28);
+    }
     match Colours::new(board, table, domain).take(board.active[domain as usize]) {
         None => Reply::refused(12),
         Some(frame) => {
@@ -208,7 +232,10 @@ pub fn release(board: &Board, table: &mut [u16], domain: u32, page: u32) -> Repl
 pub fn colours(board: &Board, table: &[u16], domain: u32) -> Reply<Answer> {
     match refused_caller(board, table, domain) {
         Some(refusal) => refusal,
-        None => Reply::Answer(Answer::Active(board.active[domain as usize])),
+        None => Reply::Answer(Answer::Active {
+            set: board.active[domain as usize],
+            quota: board.quotas[domain as usize],
+        }),
     }
 }
 
@@ -254,7 +281,20 @@ pub fn recolour(
     Reply::Answer(Answer::Moved(triples.len()))
 }
 
-/// One of the five calls with its arguments. `room` is the length of the lent move list.
+/// Document 02, No. 6: "A new call of the domain sets and answers it; this call changes the lent board record in
+/// its own place."
+pub fn set_quota(board: &mut Board, table: &[u16], domain: u32, quota: u32) -> Reply<Answer> {
+    if let Some(refusal) = refused_caller(board, table, domain) {
+        return refusal;
+    }
+    if no_quota(quota) || (quota as usize) < frames_held(table, domain) {
+        return Reply::refused(27);
+    }
+    board.quotas[domain as usize] = quota;
+    Reply::Answer(Answer::Quota(quota))
+}
+
+/// One of the calls with its arguments. `room` is the length of the lent move list.
 #[derive(Clone, Copy, Debug, PartialEq, Eq)]
 pub enum Call {
     Look { domain: u32, page: u32 },
@@ -262,6 +302,7 @@ pub enum Call {
     Release { domain: u32, page: u32 },
     Colours { domain: u32 },
     Recolour { domain: u32, set: u32, room: usize },
+    SetQuota { domain: u32, quota: u32 },
 }
 
 impl Call {
@@ -271,7 +312,8 @@ impl Call {
             | Call::Fault { domain, .. }
             | Call::Release { domain, .. }
             | Call::Colours { domain }
-            | Call::Recolour { domain, .. } => domain,
+            | Call::Recolour { domain, .. }
+            | Call::SetQuota { domain, .. } => domain,
         }
     }
 
@@ -300,6 +342,7 @@ impl State {
             Call::Release { domain, page } => release(board, table, domain, page),
             Call::Colours { domain } => colours(board, table, domain),
             Call::Recolour { domain, set, .. } => recolour(board, table, domain, set, moves),
+            Call::SetQuota { domain, quota } => set_quota(board, table, domain, quota),
         }
     }
 }
@@ -317,6 +360,7 @@ mod tests {
             domains: 2,
             grants,
             active: grants,
+            quotas: [QUOTA; DOMAINS],
         };
         let table = vec![FREE; 8];
         State { board, table }
@@ -380,6 +424,7 @@ mod tests {
             domains: 1,
             grants: [0; DOMAINS],
             active: [0; DOMAINS],
+            quotas: [QUOTA; DOMAINS],
         };
         board.grants[0] = (1 << colours) - 1;
         board.active[0] = active;
@@ -519,6 +564,209 @@ mod tests {
             0, 4096, full, 0, 0, 1, 4097, 0, 0, 4096, 4096, full, 0, full, 1, 32_769,
         ];
         assert_eq!(table, after);
+    }
+
+    fn told(set: u32, quota: u32) -> Reply<Answer> {
+        Reply::Answer(Answer::Active { set, quota })
+    }
+
+    fn quota(quota: u32) -> Reply<Answer> {
+        Reply::Answer(Answer::Quota(quota))
+    }
+
+    /// Domain 0 of the recorder's board gets frames 0 and 1 and then reaches its quota of 2, with frames 4 and 5 still
+    /// free. A mapped page is answered, domain 1 gets frames, and a frame that is released may be had again.
+    #[test]
+    fn a_quota_is_reached() {
+        let State {
+            mut board,
+            mut table,
+        } = recorder();
+        assert_eq!(colours(&board, &table, 0), told(0x3, 4096));
+        assert_eq!(set_quota(&mut board, &table, 0, 2), quota(2));
+        assert_eq!(board.quotas, [2, 4096, 4096, 4096, 4096, 4096, 4096, 4096]);
+        assert_eq!(new_frame(&board, &mut table, 9), Some(0));
+        assert_eq!(new_frame(&board, &mut table, 1), Some(1));
+        assert_eq!(fault(&board, &mut table, 0, 2), Reply::refused(28));
+        assert_eq!(table, [10, 2, 0, 0, 0, 0, 0, 0]);
+        let old = Reply::Answer(Answer::Old(1));
+        assert_eq!(fault(&board, &mut table, 0, 1), old);
+        let new = Reply::Answer(Answer::New(2));
+        assert_eq!(fault(&board, &mut table, 1, 2), new);
+        assert_eq!(colours(&board, &table, 0), told(0x3, 2));
+        assert_eq!(colours(&board, &table, 1), told(0xC, 4096));
+        let freed = Reply::Answer(Answer::Freed(0));
+        assert_eq!(release(&board, &mut table, 0, 9), freed);
+        assert_eq!(new_frame(&board, &mut table, 2), Some(0));
+        assert_eq!(fault(&board, &mut table, 0, 9), Reply::refused(28));
+    }
+
+    /// Three frames are held of the eight. The lowest quota that is taken is 3, the highest 4,096, beyond F.
+    #[test]
+    fn quotas_that_are_taken() {
+        let State { mut board, .. } = recorder();
+        let table = [1, 2, 0, 0, 3, 0, 0, 0];
+        for asked in [3, 4, 8, 9, 4095, 4096, 4096, 3] {
+            assert_eq!(set_quota(&mut board, &table, 0, asked), quota(asked));
+            assert_eq!(board.quotas[0], asked);
+        }
+        let before = board.clone();
+        for asked in [0, 1, 2, 4097, 65_536, 65_539, u32::MAX] {
+            let refused = set_quota(&mut board, &table, 0, asked);
+            assert_eq!(refused, Reply::refused(27));
+            assert_eq!(board, before);
+        }
+        // nothing is held: 1 is the lowest
+        assert_eq!(set_quota(&mut board, &table, 1, 0), Reply::refused(27));
+        assert_eq!(set_quota(&mut board, &table, 1, 1), quota(1));
+        assert_eq!(board.quotas[..3], [3, 1, 4096]);
+    }
+
+    /// Domain 0 has colours 0 and 1, of which 0 is active, and holds six frames: 0 and 4 for page 5, 1 in a colour
+    /// that is not active, 2 and 3 in colours of domain 1 for its last page and page 7, and 8. Not of it are page 0 of
+    /// domain 1 in frame 5, the words of domain 7 and of nobody in frames 6 and 7, and the reserved frame 9.
+    #[test]
+    fn frames_held_are_all_frames() {
+        let State { mut board, .. } = recorder();
+        board.frames = 16;
+        board.active[0] = 0x1;
+        let mut table = vec![6, 1, 4096, 8, 6, 4097, 32_768, 32_769, 2, RESERVED];
+        table.resize(16, FREE);
+        assert_eq!(frames_held(&table, 0), 6);
+        assert_eq!(frames_held(&table, 1), 1);
+        assert_eq!(frames_held(&table, 7), 1);
+        assert_eq!(set_quota(&mut board, &table, 0, 5), Reply::refused(27));
+        assert_eq!(set_quota(&mut board, &table, 0, 6), quota(6));
+        assert_eq!(fault(&board, &mut table, 0, 2), Reply::refused(28));
+        assert_eq!(set_quota(&mut board, &table, 0, 7), quota(7));
+        assert_eq!(new_frame(&board, &mut table, 2), Some(12));
+        assert_eq!(fault(&board, &mut table, 0, 3), Reply::refused(28));
+    }
+
+    /// Four frames are held, and the quota is 2, as no history from an empty table leaves it.
+    #[test]
+    fn held_above_the_quota() {
+        let mut board = single(2, 8, 0x3);
+        board.quotas[0] = 2;
+        let mut table = vec![1, 2, 3, 4, 0, 0, 0, 0];
+        assert_eq!(fault(&board, &mut table, 0, 9), Reply::refused(28));
+        let old = Reply::Answer(Answer::Old(3));
+        assert_eq!(fault(&board, &mut table, 0, 3), old);
+        for asked in [1, 2, 3] {
+            let refused = set_quota(&mut board, &table, 0, asked);
+            assert_eq!(refused, Reply::refused(27));
+        }
+        assert_eq!(set_quota(&mut board.clone(), &table, 0, 4), quota(4));
+        let mut moves = [0; 6];
+        assert_eq!(
+            recolour(&mut board, &mut table, 0, 0x1, &mut moves),
+            Reply::Answer(Answer::Moved(2))
+        );
+        assert_eq!(moves, [1, 1, 4, 3, 3, 6]);
+        assert_eq!(table, [1, 0, 3, 0, 2, 0, 4, 0]);
+        assert_eq!(colours(&board, &table, 0), told(0x1, 2));
+        let mapped = Reply::Answer(Answer::Mapped(4));
+        assert_eq!(look(&board, &table, 0, 1), mapped);
+        let freed = Reply::Answer(Answer::Freed(4));
+        assert_eq!(release(&board, &mut table, 0, 1), freed);
+    }
+
+    /// All frames of colour 0 are held, which alone is active, and the quota is reached: 28 goes before 12, and 10
+    /// and 8 before 28. With a frame more, 12 is left.
+    #[test]
+    fn quota_refusals_in_order() {
+        let mut board = single(2, 4, 0x1);
+        board.quotas[0] = 2;
+        let mut table = [1, 0, 2, 0];
+        assert_eq!(fault(&board, &mut table, 0, 9), Reply::refused(28));
+        assert_eq!(fault(&board, &mut table, 0, 4096), Reply::refused(10));
+        assert_eq!(fault(&board, &mut table, 1, 9), Reply::refused(8));
+        assert_eq!(set_quota(&mut board, &table, 1, 0), Reply::refused(8));
+        let refused = set_quota(&mut board, &table, 8, u32::MAX);
+        assert_eq!(refused, Reply::refused(8));
+        let short = set_quota(&mut board, &table[..3], 0, 0);
+        assert_eq!(short, Reply::refused(3));
+        assert_eq!(set_quota(&mut board, &table, 0, 3), quota(3));
+        assert_eq!(fault(&board, &mut table, 0, 9), Reply::refused(12));
+    }
+
+    /// What each call is answered: for page 9, which is not mapped, an empty set and a quota of 0, so that numbers
+    /// tested later refuse most of them too.
+    fn all_calls(state: &State, domain: u32) -> [Reply<Answer>; 6] {
+        let calls = [
+            Call::Look { domain, page: 9 },
+            Call::Fault { domain, page: 9 },
+            Call::Release { domain, page: 9 },
+            Call::Colours { domain },
+            Call::Recolour {
+                domain,
+                set: 0,
+                room: 0,
+            },
+            Call::SetQuota { domain, quota: 0 },
+        ];
+        calls.map(|call| {
+            let mut after = state.clone();
+            let reply = after.call(&call, &mut []);
+            if let Reply::Refused { .. } = reply {
+                assert_eq!(after, *state);
+            }
+            reply
+        })
+    }
+
+    /// 26 with row 0, for either domain of the two; after 7 and before 8; not for the fields beyond, and not in the
+    /// tests that admission makes.
+    #[test]
+    fn board_quotas() {
+        let mut state = recorder();
+        let good = all_calls(&state, 1);
+        let answers = [
+            Reply::Answer(Answer::Unmapped),
+            Reply::Answer(Answer::New(2)),
+            Reply::refused(14),
+            told(0xC, 4096),
+            Reply::refused(9),
+            Reply::refused(27),
+        ];
+        assert_eq!(good, answers);
+        state.board.quotas[2..].copy_from_slice(&[0, 4097, u32::MAX, 65_536, 0, 1]);
+        assert_eq!(all_calls(&state, 1), good);
+        assert_eq!(all_calls(&state, 2), [Reply::refused(8); 6]);
+        for (place, bad) in [(0, 0), (0, 4097), (1, 0), (1, 65_540), (1, u32::MAX)] {
+            let mut state = state.clone();
+            state.board.quotas[place] = bad;
+            for domain in [0, 1, 2, 8] {
+                assert_eq!(all_calls(&state, domain), [Reply::refused(26); 6]);
+            }
+            assert_eq!(refused_board(&state.board, Some(&state.table)), None);
+            state.board.active[1] = 0x1;
+            let (number, row) = (7, 1);
+            let refusal = Reply::Refused { number, row };
+            assert_eq!(all_calls(&state, 0), [refusal; 6]);
+        }
+        for least_and_most in [1, 4096] {
+            state.board.quotas[..2].fill(least_and_most);
+            let reply = colours(&state.board, &state.table, 1);
+            assert_eq!(reply, told(0xC, least_and_most));
+        }
+    }
+
+    /// All 4,096 frames of the longest table are held, two for each of the pages below 2,048: the highest quota is
+    /// reached.
+    #[test]
+    fn the_highest_quota() {
+        let mut board = single(1, 4096, 0x1);
+        let mut table: Vec<u16> = (0..4096).map(|frame| 1 + frame / 2).collect();
+        assert_eq!(fault(&board, &mut table, 0, 2048), Reply::refused(28));
+        let refused = set_quota(&mut board, &table, 0, 4095);
+        assert_eq!(refused, Reply::refused(27));
+        assert_eq!(set_quota(&mut board, &table, 0, 4096), quota(4096));
+        // one less, and no free frame
+        table[4095] = RESERVED;
+        assert_eq!(fault(&board, &mut table, 0, 2048), Reply::refused(12));
+        assert_eq!(set_quota(&mut board, &table, 0, 4095), quota(4095));
+        assert_eq!(fault(&board, &mut table, 0, 2048), Reply::refused(28));
     }
 
     /// Any content: duplicates and frames outside the grant move, a reserved frame is no target, and a

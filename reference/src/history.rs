@@ -1,12 +1,15 @@
 //! The domain rule, run on random histories: document 01, "The words of demand 3", with the move list as it is
-//! written (document 02, No. 4). Two histories that leave a domain the same colours and map, its own calls
-//! replayed alone, must give it the same answers and lists ever after, whatever the others do; two that do not
-//! are told apart by one call. And what a planner relies on of document 02, No. 7: as long as a domain neither
-//! releases nor recolours, its frames lie evenly over its active colours, as far as these have free frames.
+//! written (document 02, No. 4) and the quota (No. 6). Two histories that leave a domain the same colours, quota and
+//! map, its own calls replayed alone, must give it the same answers and lists ever after, whatever the others do; two
+//! that do not are told apart by one call. No domain ever holds more frames than its quota. And what a planner relies
+//! on of document 02, No. 7: as long as a domain neither releases nor recolours, its frames lie evenly over its active
+//! colours, as far as these have free frames.
 
-use crate::boards::{accepted, any_domain, any_page, any_set, empty_table, part_of};
+use crate::boards::{accepted, any_domain, any_page, any_set, empty_table, part_of, NO_QUOTAS};
 use crate::cache::colours;
-use crate::frames::{word, Answer, Call, State, FREE, PAGES, RESERVED};
+use crate::frames::{
+    frames_held, no_quota, word, Answer, Board, Call, State, FREE, PAGES, QUOTA, RESERVED,
+};
 use crate::random::Random;
 use crate::reply::Reply;
 
@@ -34,11 +37,17 @@ fn answered(call: &Call, run: impl FnOnce(&mut [u16]) -> Reply<Answer>) -> Answe
 #[derive(Clone, Copy, Debug, Default)]
 pub struct Tally {
     pub histories: u32,
-    /// Pairs of histories, for one domain, with the same colours and map.
+    /// Pairs of histories, for one domain, with the same colours, quota and map.
     pub equal: u32,
     /// Those among them whose own calls are not the same.
     pub equal_by_other_calls: u32,
     pub unequal: u32,
+    /// Those among them with the same colours and map.
+    pub unequal_by_quota: u32,
+    /// Histories in which 28 occurs; that end with a domain at its quota; that 26 refuses.
+    pub full: u32,
+    pub at_quota: u32,
+    pub spoilt: u32,
     pub violations: u32,
 }
 
@@ -48,8 +57,25 @@ impl Tally {
         let tenth = self.histories / 10;
         let enough = self.equal > tenth
             && self.unequal > tenth
-            && self.equal_by_other_calls > self.histories / 50;
+            && self.equal_by_other_calls > self.histories / 50
+            && self.unequal_by_quota > self.histories / 50
+            && self.full > self.histories / 20
+            && self.at_quota > tenth
+            && self.spoilt > self.histories / 50;
         enough && self.violations == 0
+    }
+
+    /// Counts what a history shows of quotas: the state after it, and what each call was answered.
+    fn count_quotas(&mut self, state: &State, answers: &[Answered]) {
+        let board = &state.board;
+        let refused = |number| {
+            let refusal = Reply::refused(number);
+            answers.iter().any(|answered| answered.reply == refusal)
+        };
+        let at_quota = |d: u32| frames_held(&state.table, d) == board.quotas[d as usize] as usize;
+        self.full += u32::from(refused(28));
+        self.at_quota += u32::from((0..board.domains).any(at_quota));
+        self.spoilt += u32::from(refused(26));
     }
 
     /// Counts a violation, and prints the first.
@@ -66,8 +92,12 @@ impl Tally {
             self.histories, self.equal, self.unequal, self.violations
         );
         println!(
-            "of the equal ones, {} by other calls of the domain itself",
-            self.equal_by_other_calls
+            "of the equal ones, {} by other calls of the domain itself; of the unequal ones, {} by the quota alone",
+            self.equal_by_other_calls, self.unequal_by_quota
+        );
+        println!(
+            "28 in {} histories, a domain at its quota after {}; a board quota at fault in {}",
+            self.full, self.at_quota, self.spoilt
         );
     }
 }
@@ -86,12 +116,17 @@ fn check_step(seed: u64, pairs: u32, step: Step) -> Tally {
         let k = trial.changed(&mut random, &h);
         tally.histories += 2;
         for history in [&h, &k] {
-            if !trial.kept(&trial.run(&trial.start, history).0) {
+            let (state, answers) = trial.run(&trial.start, history);
+            tally.count_quotas(&state, &answers);
+            if !trial.kept(&state) {
                 tally.violation(|| format!("not kept: {:?} {history:?}", trial.start));
             }
         }
         for domain in 0..trial.start.board.domains {
             trial.compare(&mut random, &mut tally, domain, &h, &k);
+        }
+        if !trial.others_quotas_unseen(&mut random, &h) {
+            tally.violation(|| format!("quota calls of others: {:?} {h:?}", trial.start));
         }
     }
     tally
@@ -186,9 +221,44 @@ fn check_even_step(
     evenness
 }
 
+/// The set that colours told.
+fn active_set(answered: &Answered) -> Option<u32> {
+    match answered.reply {
+        Reply::Answer(Answer::Active { set, .. }) => Some(set),
+        _ => None,
+    }
+}
+
 fn own(history: &[Call], domain: u32) -> Vec<Call> {
     let named = history.iter().filter(|call| call.domain() == domain);
     named.copied().collect()
+}
+
+/// Gives the board quotas, many of them low, and now and then one that 26 refuses; the fields of domains beyond the
+/// count hold anything.
+fn limit(random: &mut Random, board: &mut Board) {
+    let count = board.domains as usize;
+    for (domain, quota) in board.quotas.iter_mut().enumerate() {
+        let low = 1 + random.below(4) as u32;
+        let any = random.pick(&NO_QUOTAS);
+        *quota = match domain < count {
+            true => random.pick(&[QUOTA, QUOTA, QUOTA, low, low]),
+            false => random.pick(&[QUOTA, low, any, any]),
+        };
+    }
+    if random.below(16) == 0 {
+        board.quotas[random.below(count as u64) as usize] = random.pick(&NO_QUOTAS);
+    }
+}
+
+/// A quota to ask for: a low one as a rule, now and then none at all.
+fn asked_quota(random: &mut Random) -> u32 {
+    match random.below(8) {
+        0 => random.pick(&NO_QUOTAS),
+        1 | 2 => QUOTA,
+        3 => 1 + random.below(QUOTA.into()) as u32,
+        _ => 1 + random.below(7) as u32,
+    }
 }
 
 /// An accepted board, an empty table and a few pages that calls name again and again.
@@ -204,7 +274,8 @@ impl Trial {
         // seldom one domain alone, where there is nothing to keep apart
         let domains = random.pick(&[1, 2, 2, 2, 3, 3, 4, 8]).min(n) as u32;
         let frames = 1 + random.below(6 * n) as u32;
-        let board = accepted(random, n as u32, frames, domains);
+        let mut board = accepted(random, n as u32, frames, domains);
+        limit(random, &mut board);
         let table = empty_table(random, frames);
         let mut pages = vec![random.pick(&[0, PAGES - 1])];
         // with many pages a domain holds several frames of a colour, and the choice shows
@@ -238,7 +309,7 @@ impl Trial {
             .collect()
     }
 
-    /// Colours, then look for each page that calls name and for some others: the colours and map.
+    /// Colours, then look for each page that calls name and for some others: the colours, the quota and the map.
     fn probes(&self, random: &mut Random, domain: u32, named: &[Call]) -> Vec<Call> {
         let mut pages = self.pages.clone();
         pages.extend([0, 1, PAGES - 2, PAGES - 1]);
@@ -266,12 +337,16 @@ impl Trial {
         };
         let (after_h, _) = self.run(&self.start, h);
         let (after_k, _) = self.run(&self.start, k);
-        let good = if seen_after(&own_h) == seen_after(&own_k) {
+        let (seen_h, seen_k) = (seen_after(&own_h), seen_after(&own_k));
+        let good = if seen_h == seen_k {
             tally.equal += 1;
             tally.equal_by_other_calls += u32::from(own_h != own_k);
             (0..3).all(|_| self.same_later(random, domain, &after_h, &after_k))
         } else {
             tally.unequal += 1;
+            let sets = [&seen_h, &seen_k].map(|seen| active_set(&seen[0]));
+            let by_quota = sets[0] == sets[1] && seen_h[1..] == seen_k[1..];
+            tally.unequal_by_quota += u32::from(by_quota);
             probes.iter().any(|probe| {
                 let later = std::slice::from_ref(probe);
                 self.answers(&after_h, later, domain) != self.answers(&after_k, later, domain)
@@ -299,9 +374,42 @@ impl Trial {
         kept && self.answers(h, &l, domain) == self.answers(k, &m, domain)
     }
 
+    /// Whether no quota call of another domain after the history changes what a domain sees.
+    fn others_quotas_unseen(&self, random: &mut Random, history: &[Call]) -> bool {
+        let (after, _) = self.run(&self.start, history);
+        let domain = random.below(self.start.board.domains.into()) as u32;
+        let probes = self.probes(random, domain, history);
+        let seen = self.answers(&after, &probes, domain);
+        (0..3).all(|_| {
+            let call = Call::SetQuota {
+                domain: self.other_domain(random, domain),
+                quota: asked_quota(random),
+            };
+            let (later, _) = self.run(&after, &[call]);
+            self.answers(&later, &probes, domain) == seen
+        })
+    }
+
+    /// Whether no domain holds more frames than its quota. Where 26 refuses the board, nothing changes at all.
+    fn within_quotas(&self, state: &State) -> bool {
+        let count = self.start.board.domains as usize;
+        let (before, now) = (&self.start.board.quotas, &state.board.quotas);
+        if before[..count].iter().any(|quota| no_quota(*quota)) {
+            return *state == self.start;
+        }
+        let within = |domain: usize| {
+            let held = frames_held(&state.table, domain as u32);
+            !no_quota(now[domain]) && held <= now[domain] as usize
+        };
+        (0..count).all(within) && now[count..] == before[count..]
+    }
+
     /// What no history changes: no two domains hold frames of one colour, words reserved at the start
-    /// and no others are reserved, and no page of a domain has two frames.
+    /// and no others are reserved, no page of a domain has two frames, and no domain is above its quota.
     fn kept(&self, state: &State) -> bool {
+        if !self.within_quotas(state) {
+            return false;
+        }
         let n = state.board.colours as usize;
         let mut holders = vec![None; n];
         let mut words = std::collections::BTreeSet::new();
@@ -332,11 +440,13 @@ impl Trial {
             _ => part_of(random, *grant),
         };
         let room = random.pick(&[0, 2, 3, 5, 6, 9, 30, 30]);
-        match random.below(12) {
+        let quota = asked_quota(random);
+        match random.below(14) {
             0 => Call::Look { domain, page },
             1..=6 => Call::Fault { domain, page },
             7 | 8 => Call::Release { domain, page },
             9 => Call::Colours { domain },
+            10 | 11 => Call::SetQuota { domain, quota },
             _ => Call::Recolour { domain, set, room },
         }
     }
@@ -346,12 +456,17 @@ impl Trial {
         self.call_of(random, domain)
     }
 
-    /// A call that names any other number.
-    fn other_call(&self, random: &mut Random, domain: u32) -> Call {
-        let other = match any_domain(random, self.start.board.domains) {
+    /// Any other number.
+    fn other_domain(&self, random: &mut Random, domain: u32) -> u32 {
+        match any_domain(random, self.start.board.domains) {
             same if same == domain => self.start.board.domains,
             other => other,
-        };
+        }
+    }
+
+    /// A call that names any other number.
+    fn other_call(&self, random: &mut Random, domain: u32) -> Call {
+        let other = self.other_domain(random, domain);
         self.call_of(random, other)
     }
 
@@ -403,7 +518,7 @@ impl Trial {
         let domain = random.below(self.start.board.domains.into()) as u32;
         let mut calls = own(history, domain);
         let place = random.below(calls.len() as u64 + 1) as usize;
-        match random.below(8) {
+        match random.below(9) {
             0 => return self.history(random),
             1 => {
                 // the others' calls of this history, in other places and some left out
@@ -430,6 +545,14 @@ impl Trial {
                 calls.insert(place, Call::Fault { domain, page });
                 calls.insert(place + 1, Call::Release { domain, page });
             }
+            7 => {
+                // another quota for a while
+                let (state, _) = self.run(&self.start, &calls[..place]);
+                let before = state.board.quotas[domain as usize];
+                let set = [asked_quota(random), before];
+                let set = set.map(|quota| Call::SetQuota { domain, quota });
+                calls.splice(place..place, set);
+            }
             _ => {}
         }
         self.woven(random, domain, &calls)
@@ -439,6 +562,9 @@ impl Trial {
 #[cfg(test)]
 mod tests {
     use super::*;
+    use crate::quotas::{
+        below_held, faults_by, first_told, next_too, of_all_domains, only_above, quotas_by,
+    };
     use crate::readings::{self, all_words, in_turn, lowest_first, most_free, most_held, Reading};
 
     #[test]
@@ -567,6 +693,35 @@ mod tests {
         answered(call, |list| readings::call(state, call, list, in_turn))
     }
 
+    /// A loader whose quota call changes the next domain's field as well.
+    fn changes_the_next_quota(state: &mut State, call: &Call) -> Answered {
+        answered(call, |list| next_too(state, call, list))
+    }
+
+    /// A loader that lets a fault through at the quota.
+    fn one_above_the_quota(state: &mut State, call: &Call) -> Answered {
+        answered(call, |list| only_above(state, call, list))
+    }
+
+    /// A loader that takes a quota below the frames held.
+    fn quota_below_held(state: &mut State, call: &Call) -> Answered {
+        answered(call, |list| below_held(state, call, list))
+    }
+
+    /// A loader whose colours call tells the quota of domain 0.
+    fn tells_the_first_quota(state: &mut State, call: &Call) -> Answered {
+        answered(call, |list| first_told(state, call, list))
+    }
+
+    /// Loaders that hold the frames of all domains against the quota of each.
+    fn faults_by_all_domains(state: &mut State, call: &Call) -> Answered {
+        answered(call, |list| faults_by(state, call, list, of_all_domains))
+    }
+
+    fn quotas_by_all_domains(state: &mut State, call: &Call) -> Answered {
+        answered(call, |list| quotas_by(state, call, list, of_all_domains))
+    }
+
     #[test]
     fn wrong_loaders_are_found() {
         for wrong in [
@@ -577,6 +732,12 @@ mod tests {
             tells_free_frames,
             places_by_all_domains,
             counts_in_the_rest,
+            changes_the_next_quota,
+            one_above_the_quota,
+            quota_below_held,
+            tells_the_first_quota,
+            faults_by_all_domains,
+            quotas_by_all_domains,
         ] {
             let tally = check_step(crate::SEED, 400, wrong);
             assert!(tally.violations > 20, "{tally:?}");

@@ -11,6 +11,7 @@ pub mod inputs;
 pub mod orders;
 pub mod pipe;
 pub mod plans;
+pub mod quotas;
 pub mod random;
 pub mod random_inputs;
 pub mod random_plans;

@@ -1,5 +1,5 @@
 //! The separate tool's command. It writes the vectors that the programs `vectors_*` answer, or checks
-//! those in the tree; it runs random histories of the five calls against the domain rule; and it answers
+//! those in the tree; it runs random histories of the frame calls against the domain rule; and it answers
 //! as the program `admit` does, and compares that program with itself.
 
 use std::io::{self, Read, Write};
@@ -14,13 +14,13 @@ const USAGE: &str =
        reference admit | reference compare [PROGRAM [CASES [SEED]]]
   write      writes DIR/vectors_*/stdin and stdout; another seed gives other random cases
   check      says whether those files are what `write` would write today
-  histories  runs random histories of the frame calls and says whether the domain rule holds of them, and
-             whether domains that only take frames use their colours evenly
+  histories  runs random histories of the frame calls and says whether the domain rule holds of them, whether
+             no domain is above its quota, and whether domains that only take frames use their colours evenly
   admit      reads a plan from standard input and prints what the program `admit` prints
   compare    runs a compiled `admit` (target/bin/admit) on random inputs (4000) and says where it differs";
 
 /// Pairs of histories that `histories` compares, and histories in which it looks at how evenly frames lie.
-const PAIRS: u32 = 10_000;
+const PAIRS: u32 = 12_000;
 
 /// What `compare` runs, on how many inputs, and how long it waits for each.
 const PROGRAM: &str = "target/bin/admit";

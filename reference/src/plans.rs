@@ -416,7 +416,7 @@ impl Plan {
 #[cfg(test)]
 mod tests {
     use super::*;
-    use crate::frames::DOMAINS;
+    use crate::frames::{DOMAINS, QUOTA};
     use crate::random::Random;
 
     /// One domain with colours 0 to 7, and one VCPU.
@@ -429,6 +429,7 @@ mod tests {
             domains: 1,
             grants,
             active: grants,
+            quotas: [QUOTA; DOMAINS],
         };
         let mut tasks = Vec::new();
         for [vcpu, period, deadline, set, cost] in rows {
@@ -480,6 +481,16 @@ mod tests {
         assert_eq!(second(100, 2500), 3600);
         assert_eq!(second(100, 3000), 5200);
         assert_eq!(second(0, 3000), 4000);
+    }
+
+    /// Document 02, No. 6: 26 is "not in admission".
+    #[test]
+    fn quotas_are_not_tested() {
+        for quota in [0, 4097, u32::MAX] {
+            let mut plan = reloading(100, 3000);
+            plan.board.quotas = [quota; DOMAINS];
+            assert_eq!(plan.times(3), Ok(vec![10_000, 1000, 5200]));
+        }
     }
 
     /// Tasks of cost 1,000 with those sets and an L of 100, each of which arrives once: their times.

@@ -1,4 +1,4 @@
-//! The board and refusals 2 to 8.
+//! The board and refusals 2 to 8 and 26.
 
 use crate::{demand, demand_rows, Refusal};
 
@@ -9,11 +9,18 @@ pub struct Board {
     pub domains: u32,
     pub grants: [u32; 8],
     pub active: [u32; 8],
+    pub quotas: [u32; 8],
 }
 
 #[inline]
 pub fn is_count(n: u32) -> bool {
     matches!(n, 1 | 2 | 4 | 8 | 16)
+}
+
+/// Whether a domain may have this quota.
+#[inline]
+pub fn is_quota(quota: u32) -> bool {
+    (1..=4096).contains(&quota)
 }
 
 impl Board {
@@ -38,10 +45,12 @@ impl Board {
         demand_rows(count, 7, |d| active[d] == 0 || active[d] & !grants[d] != 0)
     }
 
-    /// Refusals 2 to 8.
+    /// Refusals 2 to 7, 26 and 8.
     #[inline]
     pub fn check_call(&self, length: usize, domain: u32) -> Result<(), Refusal> {
         self.check(Some(length))?;
+        let mut quotas = self.quotas[..self.domains as usize].iter();
+        demand(quotas.all(|quota| is_quota(*quota)), 26, 0)?;
         demand(domain < self.domains, 8, 0)
     }
 }

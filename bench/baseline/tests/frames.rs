@@ -1,9 +1,15 @@
-//! The frame calls against the separate tool's model, on random boards and crowded tables of all lengths. Both ways
-//! of recolouring leave the same.
+//! The frame calls against the separate tool's model, on random boards and crowded tables of all lengths, with quotas
+//! about as many as the frames held. Both ways of recolouring leave the same.
 
-use baseline::{fault, look, recolour, recolour_by_sort, Board, Faulted, Looked, Refusal};
-use reference::boards::{accepted, any_domain, any_page, any_set, crowded_table};
-use reference::frames::{Answer, Call, State, PAGES};
+use std::collections::BTreeMap;
+
+use baseline::{
+    colours, fault, look, recolour, recolour_by_sort, set_quota, Board, Faulted, Looked, Refusal,
+};
+use reference::boards::{
+    accepted, any_domain, any_page, any_set, asked_quota, crowded_table, limit, NO_QUOTAS,
+};
+use reference::frames::{frames_held, Answer, Call, State, PAGES};
 use reference::random::Random;
 use reference::reply::Reply;
 
@@ -15,6 +21,7 @@ fn lent(state: &State) -> Board {
         domains: board.domains,
         grants: board.grants,
         active: board.active,
+        quotas: board.quotas,
     }
 }
 
@@ -53,12 +60,22 @@ fn run(
             );
             Some(count.map(Answer::Moved))
         }
-        Call::Release { .. } | Call::Colours { .. } => None,
+        Call::Colours { domain } => {
+            let told = colours(board, table, domain);
+            Some(told.map(|(set, quota)| Answer::Active { set, quota }))
+        }
+        Call::SetQuota { domain, quota } => {
+            Some(set_quota(board, table, domain, quota).map(Answer::Quota))
+        }
+        Call::Release { .. } => None,
     }
 }
 
+/// How often each refusal came, 0 for an answer.
+type Seen = BTreeMap<u32, u32>;
+
 /// Runs the call on both sides, and leaves what the model does.
-fn compare(state: &mut State, call: &Call) {
+fn compare(state: &mut State, call: &Call, seen: &mut Seen) {
     let before = state.clone();
     let (mut board, mut table) = (lent(state), state.table.clone());
     let [mut moves, mut model_moves] = [(); 2].map(|()| vec![7; call.room()]);
@@ -75,6 +92,11 @@ fn compare(state: &mut State, call: &Call) {
     assert_eq!(table, state.table, "{before:?} {call:?}");
     assert_eq!(moves, model_moves, "{before:?} {call:?}");
     assert_eq!(board, lent(state), "{before:?} {call:?}");
+    let number = match expected {
+        Reply::Answer(_) => 0,
+        Reply::Refused { number, .. } => number,
+    };
+    *seen.entry(number).or_default() += 1;
 }
 
 fn any_call(random: &mut Random, state: &State, pages: &[u32]) -> Call {
@@ -86,38 +108,55 @@ fn any_call(random: &mut Random, state: &State, pages: &[u32]) -> Call {
         0 => random.below(30) as usize,
         _ => 3 * state.table.len(),
     };
-    match random.below(8) {
+    let held = frames_held(&state.table, domain);
+    let quota = asked_quota(random, &state.board, held, domain);
+    match random.below(11) {
         0 => Call::Look { domain, page },
         1 | 2 => Call::Release { domain, page },
         3..=5 => Call::Fault { domain, page },
+        6 => Call::Colours { domain },
+        7 | 8 => Call::SetQuota { domain, quota },
         _ => Call::Recolour { domain, set, room },
     }
 }
 
-fn script(random: &mut Random, frames: u32) {
+fn script(random: &mut Random, frames: u32, seen: &mut Seen) {
     let n = random.pick(&[1, 2, 4, 8, 16]);
     let domains = 1 + random.below(n.min(3)) as u32;
-    let board = accepted(random, n as u32, frames, domains);
+    let mut board = accepted(random, n as u32, frames, domains);
     let most = random.pick(&[1, 8, 60]);
     let pages: Vec<u32> = (0..=random.below(most))
         .map(|_| random.below(PAGES.into()) as u32)
         .collect();
     let table = crowded_table(random, &board, &pages);
+    if random.below(3) > 0 {
+        limit(random, &mut board, &table);
+    }
+    if random.below(20) == 0 {
+        board.quotas[random.below(8) as usize] = random.pick(&NO_QUOTAS);
+    }
     let mut state = State { board, table };
     for _ in 0..16 {
         let call = any_call(random, &state, &pages);
-        compare(&mut state, &call);
+        compare(&mut state, &call, seen);
     }
 }
 
 #[test]
 fn the_baseline_answers_as_the_model() {
     let mut random = Random::new(2003);
+    let mut seen = Seen::new();
     for _ in 0..60 {
         for frames in 1..=80 {
-            script(&mut random, frames);
+            script(&mut random, frames, &mut seen);
         }
         let frames = random.pick(&[1000, 4081, 4095, 4096]);
-        script(&mut random, frames);
+        script(&mut random, frames, &mut seen);
+    }
+    for number in [0, 8, 9, 10, 12, 13, 26, 27, 28] {
+        assert!(
+            seen.get(&number).is_some_and(|count| *count > 100),
+            "{seen:?}"
+        );
     }
 }

@@ -5,7 +5,7 @@
 
 use super::frames::{lent_list, Script};
 use crate::boards::{accepted, any_set, any_word, crowded_table, part_of};
-use crate::frames::{word, Answer, Board, Call, DOMAINS, FREE, PAGES, RESERVED};
+use crate::frames::{word, Answer, Board, Call, DOMAINS, FREE, PAGES, QUOTA, RESERVED};
 use crate::random::Random;
 use crate::readings::{self, wrapped, Reading, WRONG};
 use crate::reply::Reply;
@@ -27,6 +27,7 @@ fn single(active: u32) -> Board {
         domains: 1,
         grants: [0; DOMAINS],
         active: [0; DOMAINS],
+        quotas: [QUOTA; DOMAINS],
     };
     board.grants[0] = 0xF;
     board.active[0] = active;

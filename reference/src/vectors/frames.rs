@@ -1,29 +1,40 @@
-//! Vectors of the five calls of document 01, "Board and frame table", as scripts of little-endian 32-bit
-//! words, their count first. A script is the board (19 words), the table's length and words, the number of
-//! calls, and four words for each: operation, domain, page or set, length of the move list.
+//! Vectors of the calls of document 01, "Board and frame table", and of document 02, No. 6, as scripts of
+//! little-endian 32-bit words, their count first. A script is the board (27 words), the table's length and words,
+//! the number of calls, and four words for each: operation, domain, page, set or quota, length of the move list.
 
-use super::{board_words, even, hash, page_order, put, Set};
+use super::{board_words, even, hash, page_order, put, quota, Set};
 use crate::boards::{
     accepted, any_domain, any_page, any_set, any_word, empty_table, part_of, spoil,
 };
 use crate::cache::colours;
-use crate::frames::{word, Answer, Board, Call, State, DOMAINS, FREE, PAGES, RESERVED};
+use crate::frames::{word, Answer, Board, Call, State, DOMAINS, FREE, PAGES, QUOTA, RESERVED};
 use crate::random::Random;
 use crate::readings::{self, lowest_first};
 use crate::reply::Reply;
 
 const LONGEST_TABLE: usize = 4200;
 pub const LONGEST_LIST: usize = 13_000;
-const CALLS: [&str; 5] = ["look", "fault", "release", "colours", "recolour"];
+const CALLS: [&str; 6] = [
+    "look",
+    "fault",
+    "release",
+    "colours",
+    "recolour",
+    "set quota",
+];
 
 pub fn set(seed: u64) -> Set {
     let mut set = Set::new("vectors_frames");
-    for (call, others) in
-        CALLS
-            .into_iter()
-            .zip([&[10][..], &[10, 12], &[10, 14], &[], &[9, 12, 13]])
-    {
-        set.want(call, &[2, 3, 4, 8]);
+    let others = [
+        &[10][..],
+        &[10, 12, 28],
+        &[10, 14],
+        &[],
+        &[9, 12, 13],
+        &[27],
+    ];
+    for (call, others) in CALLS.into_iter().zip(others) {
+        set.want(call, &[2, 3, 4, 8, 26]);
         set.want(call, others);
         set.want_rows(call, 5, 0..8);
         // the lower of two domains is named, so never the last
@@ -32,8 +43,10 @@ pub fn set(seed: u64) -> Set {
     }
     let mut random = Random::new(seed);
     let mut scripts = examples();
+    let first = scripts.len();
     scripts.extend(spoilt_sizes(&mut random));
     scripts.extend(spoilt_domains(&mut random));
+    let refused = first..scripts.len();
     scripts.extend(from_empty_tables(&mut random));
     scripts.extend(from_any_tables(&mut random));
     scripts.extend(long_tables(&mut random));
@@ -43,6 +56,9 @@ pub fn set(seed: u64) -> Set {
     let listed = page_order::scripts(&mut random);
     page_order::assert_told_apart(&listed);
     scripts.extend(listed);
+    let limited = quota::scripts(&mut random, &scripts[refused]);
+    quota::assert_told_apart(&limited);
+    scripts.extend(limited);
     put(&mut set, scripts.len());
     for script in &scripts {
         add(&mut set, script);
@@ -120,7 +136,7 @@ fn hash_short(words: &[u16]) -> u32 {
 
 /// Writes a script and what its calls answer, each on the board and table that the one before left: the
 /// reply and a hash of the table; for a recolouring also one of the board, one of the triples as they stand in
-/// the move list, and one of its other words.
+/// the move list, and one of its other words; for set quota one of the board.
 fn add(set: &mut Set, script: &Script) {
     assert!(script.start.table.len() <= LONGEST_TABLE);
     for word in board_words(&script.start.board) {
@@ -139,6 +155,7 @@ fn add(set: &mut Set, script: &Script) {
             Call::Release { page, .. } => (2, page),
             Call::Colours { .. } => (3, 0),
             Call::Recolour { set, .. } => (4, set),
+            Call::SetQuota { quota, .. } => (5, quota),
         };
         assert!(call.room() <= LONGEST_LIST);
         for word in [operation, call.domain(), argument] {
@@ -149,13 +166,16 @@ fn add(set: &mut Set, script: &Script) {
         let reply = state.call(call, &mut list);
         set.reply(CALLS[operation as usize], reply);
         set.line(&format!("table {}", hash_short(&state.table)));
+        let board = hash(board_words(&state.board));
+        if let Call::SetQuota { .. } = call {
+            set.line(&format!("board {board}"));
+        }
         if let Call::Recolour { .. } = call {
             let moves = match reply {
                 Reply::Answer(Answer::Moved(count)) => count,
                 _ => 0,
             };
             let (triples, rest) = list.split_at(3 * moves);
-            let board = hash(board_words(&state.board));
             set.line(&format!(
                 "board {board} moves {} rest {}",
                 hash_short(triples),
@@ -175,6 +195,7 @@ fn examples() -> Vec<Script> {
         domains: 2,
         grants,
         active: grants,
+        quotas: [QUOTA; DOMAINS],
     };
     let answer = Reply::Answer;
     let recolour = |set, room| Call::Recolour {
@@ -211,7 +232,7 @@ fn examples() -> Vec<Script> {
     vec![marked, limits]
 }
 
-/// All five calls with arguments that may be refused too, on a board that refuses them before that.
+/// The five calls of document 01 with arguments that may be refused too, on a board that refuses them before that.
 fn call_all(random: &mut Random, script: &mut Script, expected: Reply<Answer>) {
     for operation in 0..5 {
         let domain = match random.below(2) {
@@ -360,7 +381,7 @@ fn spoilt_domains(random: &mut Random) -> Vec<Script> {
 
 /// A recolouring, as a rule one that moves frames, with a move list that is just long enough, too short
 /// or too long.
-fn any_recolour(random: &mut Random, script: &Script, domain: u32) -> Call {
+pub fn any_recolour(random: &mut Random, script: &Script, domain: u32) -> Call {
     let grants = script.now.board.grants;
     let grant = grants.get(domain as usize).unwrap_or(&0xFFFF);
     let mut set = any_set(random, *grant);
@@ -514,7 +535,9 @@ mod tests {
     fn every_kind_of_answer_occurs() {
         let set = set(crate::SEED);
         let text = String::from_utf8(set.stdout).unwrap();
-        for kind in ["mapped ", "unmapped", "old ", "new ", "freed ", "active "] {
+        for kind in [
+            "mapped ", "unmapped", "old ", "new ", "freed ", "active ", "quota ",
+        ] {
             assert!(text.lines().any(|line| line.starts_with(kind)), "{kind}");
         }
         let moves: Vec<u32> = text

@@ -8,6 +8,7 @@ mod frames;
 mod nested;
 mod page_order;
 mod plans;
+mod quota;
 mod rounds;
 
 use std::collections::BTreeMap;
@@ -45,10 +46,17 @@ fn hash(words: impl IntoIterator<Item = u32>) -> u32 {
     words.into_iter().fold(0, step)
 }
 
-fn board_words(board: &Board) -> Vec<u32> {
+/// The board of a plan, whose quotas nothing tests: they are 4,096, and not among the words.
+fn plan_board_words(board: &Board) -> Vec<u32> {
     let mut words = vec![board.colours, board.frames, board.domains];
     words.extend(board.grants);
     words.extend(board.active);
+    words
+}
+
+fn board_words(board: &Board) -> Vec<u32> {
+    let mut words = plan_board_words(board);
+    words.extend(board.quotas);
     words
 }
 

@@ -5,7 +5,7 @@
 
 use super::frames::{lent_list, Script, LONGEST_LIST};
 use crate::boards::{accepted, any_word, part_of};
-use crate::frames::{word, Answer, Board, Call, DOMAINS, FREE, PAGES, RESERVED};
+use crate::frames::{word, Answer, Board, Call, DOMAINS, FREE, PAGES, QUOTA, RESERVED};
 use crate::orders::{self, wrapped, Order, WRONG};
 use crate::random::Random;
 use crate::reply::Reply;
@@ -88,6 +88,7 @@ fn examples() -> Vec<Script> {
             domains: 1,
             grants: [0; DOMAINS],
             active: [0; DOMAINS],
+            quotas: [QUOTA; DOMAINS],
         };
         (board.grants[0], board.active[0]) = (0xF, 0xF);
         board

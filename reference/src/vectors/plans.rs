@@ -3,9 +3,9 @@
 //! (board, reload, and each with its length in front the VCPU words and the task words, then the lengths of
 //! the lists of times and of rounds); 1, the part of a VCPU; 2, the least supply.
 
-use super::{board_words, hash, nested, put, rounds, Set};
+use super::{hash, nested, plan_board_words, put, rounds, Set};
 use crate::boards::{accepted, spoil};
-use crate::frames::{Board, DOMAINS};
+use crate::frames::{Board, DOMAINS, QUOTA};
 use crate::plans::{
     part, supply, task_time, tasks, vcpus, Plan, Vcpu, LONGEST, RELOAD, TASKS, TASK_WORDS, VCPUS,
     VCPU_WORDS,
@@ -120,7 +120,8 @@ fn add_admission(set: &mut Set, plan: &Plan, times: usize, rounds: usize) {
     assert!(plan.vcpus.len() <= MOST_VCPU_WORDS && plan.tasks.len() <= MOST_TASK_WORDS);
     assert!(times.max(rounds) <= LONGEST_LIST);
     put(set, 0);
-    for word in board_words(&plan.board) {
+    assert_eq!(plan.board.quotas, [QUOTA; DOMAINS]);
+    for word in plan_board_words(&plan.board) {
         put(set, word);
     }
     put(set, plan.reload);
@@ -188,6 +189,7 @@ pub fn lone_vcpu(grant: u32, reload: u32, supplied: [u32; 2], rows: &[[u32; 4]])
             domains: 1,
             grants,
             active: grants,
+            quotas: [QUOTA; DOMAINS],
         },
         reload,
         vcpus: [[0, 0], supplied].concat(),
