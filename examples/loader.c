@@ -1,10 +1,10 @@
 /*
  * A loader in small: it sees that the archive is its header's, asks for the colours of its cache, boots a
  * board with two guests, faults pages in, recolours a guest, sees that a guest's frames lie evenly over its
- * colours and that pages to copy go upwards, and admits the plan of document 01, knowing beforehand how many
- * rounds that can take. Each reply is held against what document 01 says, the order of pages, the even use of
- * colours and the rounds against document 02, Nos. 4, 7 and 9, and the exit status is 1 where one differs, 2
- * with an archive of another interface.
+ * colours and that pages to copy go upwards, boots again with a quota that leaves frames for recolouring, and
+ * admits the plan of document 01, knowing beforehand how many rounds that can take. Each reply is held against
+ * what document 01 says, the order of pages, the quota, the even use of colours and the rounds against document
+ * 02, Nos. 4, 6, 7 and 9, and the exit status is 1 where one differs, 2 with an archive of another interface.
  */
 #include <stdio.h>
 
@@ -53,10 +53,11 @@ static void show_pages(void)
     expect("index", index, 6);
 }
 
-/* Two guests with two colours each, all of them active; eight free frames. */
+/* Two guests with two colours each, all of them active, and the quotas at first; eight free frames. */
 static void boot(struct juzvanec_board *board, uint16_t *table)
 {
-    static const struct juzvanec_board booted = {4, FRAMES, 2, {0x3, 0xC}, {0x3, 0xC}};
+    static const struct juzvanec_board booted = {
+        4, FRAMES, 2, {0x3, 0xC}, {0x3, 0xC}, {JUZVANEC_FIRST_QUOTA, JUZVANEC_FIRST_QUOTA}};
     unsigned frame;
 
     *board = booted;
@@ -64,9 +65,9 @@ static void boot(struct juzvanec_board *board, uint16_t *table)
         table[frame] = JUZVANEC_FREE;
 }
 
-/* A fault that gets a new frame, or is refused. */
-static void show_fault(const struct juzvanec_board *board, uint16_t *table, uint32_t domain,
-                       uint32_t page, uint32_t expected, uint32_t expected_frame)
+/* A fault; the last number is 1 where the page gets a new frame, and 0 where it has one or is refused. */
+static void show_any_fault(const struct juzvanec_board *board, uint16_t *table, uint32_t domain, uint32_t page,
+                           uint32_t expected, uint32_t expected_frame, uint32_t expected_new)
 {
     uint32_t is_new, frame, row;
     uint32_t number = juzvanec_fault(board, table, FRAMES, domain, page, &is_new, &frame, &row);
@@ -78,7 +79,14 @@ static void show_fault(const struct juzvanec_board *board, uint16_t *table, uint
         printf("refused %lu\n", (unsigned long)number);
     expect("refusal", number, expected);
     expect("frame", frame, expected_frame);
-    expect("new", is_new, number == JUZVANEC_ANSWERED);
+    expect("new", is_new, expected_new);
+}
+
+/* A fault that gets a new frame, or is refused. */
+static void show_fault(const struct juzvanec_board *board, uint16_t *table, uint32_t domain,
+                       uint32_t page, uint32_t expected, uint32_t expected_frame)
+{
+    show_any_fault(board, table, domain, page, expected, expected_frame, expected == JUZVANEC_ANSWERED);
 }
 
 static void show_look(const struct juzvanec_board *board, const uint16_t *table, uint32_t domain,
@@ -109,17 +117,19 @@ static void show_table(const uint16_t *table, const uint16_t *expected)
     printf("\n");
 }
 
-/* Domain 0 recolours, and the loader copies the pages, upwards as the moves stand. */
-static void show_recolour(struct juzvanec_board *board, uint16_t *table, uint32_t new_set, const uint16_t *expected,
-                          uint32_t expected_count)
+/* A domain recolours, and the loader copies the pages, upwards as the moves stand. */
+static void show_recolour(struct juzvanec_board *board, uint16_t *table, uint32_t domain, uint32_t new_set,
+                          const uint16_t *expected, uint32_t expected_count)
 {
     uint16_t moves[JUZVANEC_MOVE_WORDS * FRAMES];
-    uint32_t count, set, row, i;
+    uint32_t count, set, quota, row, i;
 
     expect("refusal",
-           juzvanec_recolour(board, table, FRAMES, 0, new_set, moves, sizeof moves / sizeof *moves, &count, &row),
+           juzvanec_recolour(board, table, FRAMES, domain, new_set, moves, sizeof moves / sizeof *moves, &count,
+                             &row),
            JUZVANEC_ANSWERED);
-    printf("domain 0 recolours to 0x%lx: moves %lu\n", (unsigned long)new_set, (unsigned long)count);
+    printf("domain %lu recolours to 0x%lx: moves %lu\n", (unsigned long)domain, (unsigned long)new_set,
+           (unsigned long)count);
     expect("moves", count, expected_count);
     for (i = 0; i < count; i++) {
         const uint16_t *move = moves + JUZVANEC_MOVE_WORDS * i;
@@ -129,9 +139,10 @@ static void show_recolour(struct juzvanec_board *board, uint16_t *table, uint32_
     }
     for (i = 0; i < JUZVANEC_MOVE_WORDS * expected_count; i++)
         expect("word of the moves", moves[i], expected[i]);
-    expect("refusal", juzvanec_colours(board, table, FRAMES, 0, &set, &row), JUZVANEC_ANSWERED);
+    expect("refusal", juzvanec_colours(board, table, FRAMES, domain, &set, &quota, &row), JUZVANEC_ANSWERED);
     expect("active set", set, new_set);
-    expect("board's set", board->active[0], new_set);
+    expect("board's set", board->active[domain], new_set);
+    expect("quota", quota, board->quotas[domain]);
 }
 
 static void show_release(const struct juzvanec_board *board, uint16_t *table, uint32_t domain, uint32_t page,
@@ -170,8 +181,60 @@ static void show_page_order(struct juzvanec_board *board, uint16_t *table)
     static const uint16_t moves[2 * JUZVANEC_MOVE_WORDS] = {1, 4, 5, 2, 0, 1};
     static const uint16_t after[FRAMES] = {0, 3, 0, 4100, 0, 2, 4099};
 
-    show_recolour(board, table, 0x2, moves, 2);
+    show_recolour(board, table, 0, 0x2, moves, 2);
     show_table(table, after);
+}
+
+/* Domain 1, the display guest, asks for a quota. */
+static void show_set_quota(struct juzvanec_board *board, const uint16_t *table, uint32_t quota, uint32_t expected)
+{
+    uint32_t before = board->quotas[1], answer, row;
+    uint32_t number = juzvanec_set_quota(board, table, FRAMES, 1, quota, &answer, &row);
+
+    printf("domain 1 asks for a quota of %lu: ", (unsigned long)quota);
+    if (number == JUZVANEC_ANSWERED)
+        printf("quota %lu\n", (unsigned long)answer);
+    else
+        printf("refused %lu\n", (unsigned long)number);
+    expect("refusal", number, expected);
+    expect("answer", answer, number == JUZVANEC_ANSWERED ? quota : 0);
+    expect("board's quota", board->quotas[1], number == JUZVANEC_ANSWERED ? quota : before);
+}
+
+static void show_colours(const struct juzvanec_board *board, const uint16_t *table, uint32_t expected_set,
+                         uint32_t expected_quota)
+{
+    uint32_t set, quota, row;
+
+    expect("refusal", juzvanec_colours(board, table, FRAMES, 1, &set, &quota, &row), JUZVANEC_ANSWERED);
+    printf("domain 1 has colours 0x%lx and quota %lu\n", (unsigned long)set, (unsigned long)quota);
+    expect("active set", set, expected_set);
+    expect("quota", quota, expected_quota);
+}
+
+/*
+ * The display guest is to give up colour 3 later. Its colours have four frames, 2 and 6 of colour 2, 3 and 7 of
+ * colour 3; with pages in all of them none could move. With a quota of two it gets frames 2 and 3, and frame 6 is
+ * left for the page in frame 3. A page that it has is answered at the quota too, and no quota goes below its pages.
+ */
+static void show_quota(void)
+{
+    static const uint16_t move[JUZVANEC_MOVE_WORDS] = {1, 3, 6};
+    static const uint16_t after[FRAMES] = {0, 0, JUZVANEC_PAGE_WORD(1, 0), 0, 0, 0, JUZVANEC_PAGE_WORD(1, 1)};
+    struct juzvanec_board board;
+    uint16_t table[FRAMES];
+
+    boot(&board, table);
+    show_colours(&board, table, 0xC, JUZVANEC_FIRST_QUOTA);
+    show_set_quota(&board, table, 2, JUZVANEC_ANSWERED);
+    show_fault(&board, table, 1, 0, JUZVANEC_ANSWERED, 2);
+    show_fault(&board, table, 1, 1, JUZVANEC_ANSWERED, 3);
+    show_fault(&board, table, 1, 2, JUZVANEC_REFUSED_AT_QUOTA, 0);
+    show_any_fault(&board, table, 1, 1, JUZVANEC_ANSWERED, 3, 0);
+    show_set_quota(&board, table, 1, JUZVANEC_REFUSED_NEW_QUOTA);
+    show_recolour(&board, table, 1, 0x4, move, 1);
+    show_table(table, after);
+    show_colours(&board, table, 0x4, 2);
 }
 
 static void show_frames(void)
@@ -189,7 +252,7 @@ static void show_frames(void)
     show_fault(&board, table, 1, 0, JUZVANEC_ANSWERED, 2);
     show_fault(&board, table, 0, 1, JUZVANEC_ANSWERED, 1);
     show_table(table, booted);
-    show_recolour(&board, table, 0x1, move, 1);
+    show_recolour(&board, table, 0, 0x1, move, 1);
     show_table(table, recoloured);
     show_look(&board, table, 0, 1, 1, 4);
     show_look(&board, table, 1, 1, 0, 0);
@@ -201,7 +264,7 @@ static void show_frames(void)
 }
 
 /* The plan of the program `admit` in document 01: one guest, a VCPU and two tasks. */
-static const struct juzvanec_board plan_board = {16, 64, 1, {255}, {255}};
+static const struct juzvanec_board plan_board = {16, 64, 1, {255}, {255}, {JUZVANEC_FIRST_QUOTA}};
 static const uint32_t reload = 100;
 static const struct juzvanec_vcpu vcpus[VCPUS] = {{0, 0, 10000, 10000}};
 static struct juzvanec_task tasks[TASKS] = {{0, 4000, 4000, 0x3, {0}}, {0, 10000, 10000, 0x6, {0}}};
@@ -343,6 +406,7 @@ int main(void)
     show_cache(2097152, 16, 0);
     show_pages();
     show_frames();
+    show_quota();
     fill_costs();
     show_plan();
     show_admit();

@@ -1,7 +1,7 @@
 /*
  * Juzvanec: cache-coloured frames for guest systems and the admission of task plans, for C and C++.
  * Link libjuzvanec.a, which asks for memcpy and memset and nothing else. Terms and numbers are those of
- * document 01.
+ * documents 01 and 02.
  *
  * Replies. Every function but juzvanec_part and juzvanec_interface returns the number of its refusal, or
  * 0 (JUZVANEC_ANSWERED) where it answers. Numbers that come back through pointers are always written:
@@ -40,12 +40,13 @@ extern "C" {
  *     if (juzvanec_interface() != JUZVANEC_INTERFACE)
  *         do not boot
  */
-#define JUZVANEC_INTERFACE 5u
+#define JUZVANEC_INTERFACE 6u
 
 /* Limits. */
 #define JUZVANEC_MOST_COLOURS 16u
 #define JUZVANEC_MOST_DOMAINS 8u
 #define JUZVANEC_MOST_FRAMES 4096u
+#define JUZVANEC_MOST_QUOTA 4096u         /* frames */
 #define JUZVANEC_MOST_VCPUS 16u
 #define JUZVANEC_MOST_TASKS 32u
 #define JUZVANEC_MOST_RELOAD 10000u       /* microseconds for each colour */
@@ -57,16 +58,20 @@ extern "C" {
 #define JUZVANEC_PAGE_BYTES 4096u         /* a page or a frame */
 
 /*
- * A board: 19 words of 32 bits. A grant or an active set has bit c for colour c. The sets of domains at or
- * beyond the count are neither read nor changed.
+ * A board: 27 words of 32 bits. A grant or an active set has bit c for colour c. A domain that holds as many
+ * frames as its quota, or more, gets no new one by a fault; recolouring goes on whatever the quota. Whoever
+ * fills a board in gives each domain JUZVANEC_FIRST_QUOTA, which holds nobody back, and later lowers or raises
+ * it by juzvanec_set_quota. The fields of domains at or beyond the count are neither read nor changed.
  */
-#define JUZVANEC_BOARD_WORDS 19u
+#define JUZVANEC_BOARD_WORDS 27u
+#define JUZVANEC_FIRST_QUOTA 4096u
 struct juzvanec_board {
     uint32_t colours;                       /* N, the colours of the cache: 1, 2, 4, 8 or 16 */
     uint32_t frames;                        /* F, the frames: 1 to 4,096 */
     uint32_t domains;                       /* the domain count: 1 to 8 */
     uint32_t grants[JUZVANEC_MOST_DOMAINS]; /* not empty, and share no colour */
     uint32_t active[JUZVANEC_MOST_DOMAINS]; /* not empty, each inside its grant */
+    uint32_t quotas[JUZVANEC_MOST_DOMAINS]; /* frames, 1 to 4,096 each */
 };
 
 /*
@@ -131,7 +136,10 @@ static inline const uint32_t *juzvanec_tasks_as_words(const struct juzvanec_task
 /* The bytes that the text of juzvanec_admit must have. */
 #define JUZVANEC_TEXT_BYTES 1024u
 
-/* Refusals, in the order in which they are tested. */
+/*
+ * Refusals. They are tested in this order, but for two: 26 goes behind 7, and 28 before 12. Admission does not
+ * test 26.
+ */
 #define JUZVANEC_ANSWERED 0u
 #define JUZVANEC_REFUSED_INPUT 1u         /* a count over 8 domains, 16 VCPUs or 32 tasks, or another length */
 #define JUZVANEC_REFUSED_COLOURS 2u       /* N is not 1, 2, 4, 8 or 16, or the cache sizes give no such N */
@@ -141,7 +149,7 @@ static inline const uint32_t *juzvanec_tasks_as_words(const struct juzvanec_task
 #define JUZVANEC_REFUSED_SHARED_GRANT 6u  /* a grant shares a bit with another */
 #define JUZVANEC_REFUSED_ACTIVE 7u        /* an active set is 0 or has a bit outside its grant */
 #define JUZVANEC_REFUSED_CALLER 8u        /* the calling domain is not below the domain count */
-#define JUZVANEC_REFUSED_SET 9u           /* a set is 0, or outside the grant (recolour) or at N or above */
+#define JUZVANEC_REFUSED_SET 9u           /* a set is 0, outside the grant, or at N or above (layout, bleaching) */
 #define JUZVANEC_REFUSED_PAGE 10u         /* a page or an index exceeds its limit */
 #define JUZVANEC_REFUSED_OUTSIDE_SET 11u  /* the page to bleach has a colour outside the set */
 #define JUZVANEC_REFUSED_NO_FRAME 12u     /* no free frame of an active colour, or too few to move to */
@@ -155,6 +163,9 @@ static inline const uint32_t *juzvanec_tasks_as_words(const struct juzvanec_task
 #define JUZVANEC_REFUSED_SHARED_COLOUR 20u /* a task row shares a colour with a row of another VCPU */
 #define JUZVANEC_REFUSED_VCPU_LATE 21u    /* a VCPU has no time up to its period */
 #define JUZVANEC_REFUSED_TASK_LATE 22u    /* a task has no time up to its deadline */
+#define JUZVANEC_REFUSED_QUOTA 26u        /* a board quota is 0 or above 4,096 */
+#define JUZVANEC_REFUSED_NEW_QUOTA 27u    /* the quota asked for is 0, above 4,096 or below the frames held */
+#define JUZVANEC_REFUSED_AT_QUOTA 28u     /* an unmapped page faults, and the frames held reach the quota */
 
 /* The number of the archive's interface, to be compared with JUZVANEC_INTERFACE. */
 uint32_t juzvanec_interface(void);
@@ -170,27 +181,36 @@ uint32_t juzvanec_bleach(uint32_t colours, uint32_t set, uint32_t page, uint32_t
 
 /*
  * The lowest frame that the domain holds for the page: *mapped is 1 and *frame its number, or both are 0
- * where the page is unmapped. Refusals 2 to 8, 10.
+ * where the page is unmapped. Refusals 2 to 7, 26, 8, 10.
  */
 uint32_t juzvanec_look(const struct juzvanec_board *board, const uint16_t *table, size_t table_words,
                        uint32_t domain, uint32_t page, uint32_t *mapped, uint32_t *frame, uint32_t *row);
 
 /*
- * If the page is mapped, its lowest frame, and *is_new is 0. Else a free frame with a colour in the domain's
- * active set: of the colours with a free frame that in which the domain holds the fewest frames, the lowest on
- * a tie, and of it the lowest free frame. Its word becomes the page word, and *is_new is 1. Refusals 2 to 8,
- * 10, 12.
+ * If the page is mapped, its lowest frame, and *is_new is 0, whatever the quota. Else, if the domain holds fewer
+ * frames than its quota (those with one of its page words, whatever page and colour, are all held), a free frame
+ * with a colour in its active set: of the colours with a free frame that in which the domain holds the fewest
+ * frames, the lowest on a tie, and of it the lowest free frame. Its word becomes the page word, and *is_new is 1.
+ * Refusals 2 to 7, 26, 8, 10, 28, 12.
  */
 uint32_t juzvanec_fault(const struct juzvanec_board *board, uint16_t *table, size_t table_words,
                         uint32_t domain, uint32_t page, uint32_t *is_new, uint32_t *frame, uint32_t *row);
 
-/* The lowest frame that the domain holds for the page becomes free. Refusals 2 to 8, 10, 14. */
+/* The lowest frame that the domain holds for the page becomes free. Refusals 2 to 7, 26, 8, 10, 14. */
 uint32_t juzvanec_release(const struct juzvanec_board *board, uint16_t *table, size_t table_words,
                           uint32_t domain, uint32_t page, uint32_t *frame, uint32_t *row);
 
-/* The domain's active set. Refusals 2 to 8. */
+/* The domain's active set and its quota. Refusals 2 to 7, 26, 8. */
 uint32_t juzvanec_colours(const struct juzvanec_board *board, const uint16_t *table, size_t table_words,
-                          uint32_t domain, uint32_t *set, uint32_t *row);
+                          uint32_t domain, uint32_t *set, uint32_t *quota, uint32_t *row);
+
+/*
+ * The domain's quota in the board becomes this one, and no other field of the board changes; *answer is the new
+ * quota. It may be the old one, and may exceed the frames that there are, but is not below the frames that the
+ * domain holds: all with one of its page words, whatever page and colour. Refusals 2 to 7, 26, 8, 27.
+ */
+uint32_t juzvanec_set_quota(struct juzvanec_board *board, const uint16_t *table, size_t table_words,
+                            uint32_t domain, uint32_t quota, uint32_t *answer, uint32_t *row);
 
 /*
  * The domain's frames outside the new set, ascending, go one by one to free frames inside it, each chosen as
@@ -198,8 +218,9 @@ uint32_t juzvanec_colours(const struct juzvanec_board *board, const uint16_t *ta
  * old frames become free, and the set is the domain's active one in the board. *count is the number of moves.
  * The move list receives JUZVANEC_MOVE_WORDS words for each, by ascending page, equal pages by ascending old
  * frame, and its rest does not change. The pages' contents are the caller's to copy, in any order: no frame is
- * both left and taken. An array of 8,192 bytes has a place in the list for each page, so that the call takes
- * at most 8,960 bytes of stack. Refusals 2 to 9, 12, 13.
+ * both left and taken. A quota stops no recolouring, since the frames held stay as many. An array of 8,192 bytes
+ * on the stack has a place in the list for each page, so that the call takes at most 8,960 bytes of stack.
+ * Refusals 2 to 7, 26, 8, 9, 12, 13.
  */
 uint32_t juzvanec_recolour(struct juzvanec_board *board, uint16_t *table, size_t table_words,
                            uint32_t domain, uint32_t set, uint16_t *moves, size_t move_words,
@@ -225,7 +246,8 @@ void juzvanec_part(const uint32_t *tasks, size_t task_words, uint32_t vcpu, size
  * row of the VCPU (for a VCPU, of the core), the deadline over that row's period, rounded up, less 1; this
  * holds of searches that end late, too.
  *
- * Refusals 2 to 7, 15 to 22; 16 also where either of the two lists is shorter than the rows.
+ * Refusals 2 to 7, 15 to 22; 16 also where either of the two lists is shorter than the rows. The board's quotas
+ * are not looked at.
  */
 uint32_t juzvanec_admit_plan(const struct juzvanec_board *board, uint32_t reload, const uint32_t *vcpus,
                              size_t vcpu_words, const uint32_t *tasks, size_t task_words,

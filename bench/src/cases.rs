@@ -207,34 +207,125 @@ impl Case for Fault {
     }
 }
 
-/// A fault of a mapped page, which changes nothing.
-pub struct MappedFault(pub Frames);
+/// A fault that changes nothing: of a mapped page, or one that is refused with the number.
+pub struct IdleFault {
+    frames: Frames,
+    number: u32,
+}
 
-impl Case for MappedFault {
+impl IdleFault {
+    /// Of a page that has its frame.
+    pub fn mapped(frames: Frames) -> Self {
+        IdleFault { frames, number: 0 }
+    }
+
+    /// Of an unmapped page, with the quota just reached.
+    pub fn at_quota(mut frames: Frames) -> Self {
+        let own = |word: &&u16| **word != 0 && (**word - 1) / 4096 == 1;
+        let held = frames.table.iter().filter(own).count();
+        frames.board.quotas[1] = held as u32;
+        frames.lent = ours::lent(&frames.board);
+        IdleFault { frames, number: 28 }
+    }
+}
+
+impl Case for IdleFault {
     fn ours(&mut self) {
-        let page = black_box(self.0.page);
-        let Frames { lent, table, .. } = &mut self.0;
+        let page = black_box(self.frames.page);
+        let Frames { lent, table, .. } = &mut self.frames;
         black_box(ours::fault(black_box(lent), black_box(table), 1, page));
     }
 
     fn base(&mut self) {
-        let page = black_box(self.0.page);
-        let Frames { board, table, .. } = &mut self.0;
+        let page = black_box(self.frames.page);
+        let Frames { board, table, .. } = &mut self.frames;
         let _ = black_box(baseline::fault(black_box(board), black_box(table), 1, page));
     }
 
     fn agree(&mut self) -> bool {
-        let page = self.0.page;
-        let [mut one, mut two] = [self.0.table.clone(), self.0.table.clone()];
-        let base = reply(baseline::fault(&self.0.board, &mut one, 1, page), faulted);
-        let ours = ours::fault(&self.0.lent, &mut two, 1, page);
-        let untouched = one == self.0.table && two == self.0.table;
-        // the cases are all of old frames
-        ours == base && untouched && ours.0 == 0 && ours.2[0] == 0
+        let Frames {
+            board,
+            lent,
+            table,
+            page,
+            ..
+        } = &self.frames;
+        let [mut one, mut two] = [table.clone(), table.clone()];
+        let base = reply(baseline::fault(board, &mut one, 1, *page), faulted);
+        let ours = ours::fault(lent, &mut two, 1, *page);
+        let untouched = one == *table && two == *table;
+        // an answer is an old frame
+        ours == base && untouched && ours.0 == self.number && ours.2[0] == 0
     }
 
     fn symbols(&self) -> [&'static str; 2] {
         ["juzvanec_fault", "baseline_fault"]
+    }
+}
+
+/// The colours and the quota of domain 1.
+pub struct Colours(pub Frames);
+
+impl Case for Colours {
+    fn ours(&mut self) {
+        let Frames { lent, table, .. } = &self.0;
+        black_box(ours::colours(black_box(lent), black_box(table), 1));
+    }
+
+    fn base(&mut self) {
+        let Frames { board, table, .. } = &self.0;
+        let _ = black_box(baseline::colours(black_box(board), black_box(table), 1));
+    }
+
+    fn agree(&mut self) -> bool {
+        let Frames {
+            lent, board, table, ..
+        } = &self.0;
+        let base = reply(baseline::colours(board, table, 1), |(set, quota)| {
+            [set, quota]
+        });
+        let ours = ours::colours(lent, table, 1);
+        ours == base && ours.0 == 0
+    }
+
+    fn symbols(&self) -> [&'static str; 2] {
+        ["juzvanec_colours", "baseline_colours"]
+    }
+}
+
+/// Domain 1 sets its quota to this, again and again.
+pub struct SetQuota(pub Frames, pub u32);
+
+impl SetQuota {
+    fn reply_ours(&mut self) -> Reply {
+        let SetQuota(Frames { lent, table, .. }, quota) = self;
+        ours::set_quota(black_box(lent), black_box(table), 1, black_box(*quota))
+    }
+
+    fn reply_base(&mut self) -> Result<u32, Refusal> {
+        let SetQuota(Frames { board, table, .. }, quota) = self;
+        baseline::set_quota(black_box(board), black_box(table), 1, black_box(*quota))
+    }
+}
+
+impl Case for SetQuota {
+    fn ours(&mut self) {
+        black_box(self.reply_ours());
+    }
+
+    fn base(&mut self) {
+        let _ = black_box(self.reply_base());
+    }
+
+    fn agree(&mut self) -> bool {
+        let ours = self.reply_ours();
+        let base = reply(self.reply_base(), |quota| [quota, 0]);
+        let boards = self.0.lent == ours::lent(&self.0.board);
+        ours == base && boards && ours.0 == 0 && self.0.lent.quotas[1] == self.1
+    }
+
+    fn symbols(&self) -> [&'static str; 2] {
+        ["juzvanec_set_quota", "baseline_set_quota"]
     }
 }
 

@@ -2,10 +2,14 @@
 
 use baseline::Board;
 
-use crate::cases::{Admission, Boot, Case, Fault, Frames, Look, MappedFault, Pages, Recolour};
+use crate::cases::{Admission, Boot, Case, Colours, Fault, Frames, IdleFault, Look, Pages};
+use crate::cases::{Recolour, SetQuota};
 
 /// All rows of the largest plan.
 pub const ROWS: usize = 48;
+
+/// The quota that a domain has at first.
+const FIRST_QUOTA: u32 = 4096;
 
 /// The numbers that the plans here are answered with.
 const ADMITTED: u32 = 0;
@@ -27,6 +31,7 @@ fn board(frames: u32, sets: &[u32]) -> Board {
         domains: sets.len() as u32,
         grants,
         active: grants,
+        quotas: [FIRST_QUOTA; 8],
     }
 }
 
@@ -283,8 +288,12 @@ fn frame_cases(f: u32) -> Vec<Named> {
         table: vec![0; f as usize],
     };
     let look = |page| Look(frames(held(f, f), page));
-    let mapped = |page| MappedFault(frames(held(f, f), page));
+    let mapped = |page| IdleFault::mapped(frames(held(f, f), page));
     let fault = |table| Fault(frames(table, UNMAPPED));
+    let half = || frames(held(f, f / 2), UNMAPPED);
+    let at_quota = IdleFault::at_quota(half());
+    let colours = Colours(half());
+    let set_quota = SetQuota(half(), f / 2);
     let size = format!(", F = {f}");
     let mut cases = vec![
         named("look, page in one of the first frames", &size, look(first)),
@@ -299,6 +308,9 @@ fn frame_cases(f: u32) -> Vec<Named> {
             mapped(first),
         ),
         named("fault, page in one of the last frames", &size, mapped(last)),
+        named("fault at the quota, half-full table", &size, at_quota),
+        named("colours, half-full table", &size, colours),
+        named("set quota, half-full table", &size, set_quota),
         named("boot", &format!(" of {faults} faults{size}"), boot),
     ];
     cases.extend(recolour_cases(f, "", |case| case));

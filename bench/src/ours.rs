@@ -61,6 +61,43 @@ pub fn fault(board: &Board, table: &mut [u16], domain: u32, page: u32) -> Reply 
 }
 
 #[inline(always)]
+pub fn colours(board: &Board, table: &[u16], domain: u32) -> Reply {
+    let [mut set, mut quota, mut row] = [0; 3];
+    // SAFETY: board and table are valid for their lengths; three words of this function's own are lent.
+    let number = unsafe {
+        raw::juzvanec_colours(
+            board,
+            table.as_ptr(),
+            table.len(),
+            domain,
+            &mut set,
+            &mut quota,
+            &mut row,
+        )
+    };
+    (number, row, [set, quota])
+}
+
+#[inline(always)]
+pub fn set_quota(board: &mut Board, table: &[u16], domain: u32, quota: u32) -> Reply {
+    let [mut answer, mut row] = [0; 2];
+    // SAFETY: board and table are valid for their lengths and lie apart; two words of this function's own
+    // are lent.
+    let number = unsafe {
+        raw::juzvanec_set_quota(
+            board,
+            table.as_ptr(),
+            table.len(),
+            domain,
+            quota,
+            &mut answer,
+            &mut row,
+        )
+    };
+    (number, row, [answer, 0])
+}
+
+#[inline(always)]
 pub fn recolour(
     board: &mut Board,
     table: &mut [u16],
@@ -125,5 +162,6 @@ pub fn lent(board: &baseline::Board) -> Board {
         domains: board.domains,
         grants: board.grants,
         active: board.active,
+        quotas: board.quotas,
     }
 }

@@ -61,7 +61,12 @@ static uint32_t release(uint32_t domain, uint32_t page)
 
 static uint32_t colours(uint32_t domain)
 {
-    return juzvanec_colours(&board, table, board.frames, domain, &first, &row);
+    return juzvanec_colours(&board, table, board.frames, domain, &first, &second, &row);
+}
+
+static uint32_t set_quota(uint32_t domain, uint32_t quota)
+{
+    return juzvanec_set_quota(&board, table, board.frames, domain, quota, &first, &row);
 }
 
 static uint32_t recolour(uint32_t domain, uint32_t set, size_t move_words)
@@ -86,6 +91,8 @@ static void fill_table(uint16_t word)
 /* Two guests that use a part of their grants, and free frames. Each field is refused in another's place. */
 static void boot(void)
 {
+    uint32_t domain;
+
     memset(&board, 0, sizeof board);
     board.colours = 4;
     board.frames = 8;
@@ -94,6 +101,8 @@ static void boot(void)
     board.grants[1] = 0xC;
     board.active[0] = 0x1;
     board.active[1] = 0x8;
+    for (domain = 0; domain < JUZVANEC_MOST_DOMAINS; domain++)
+        board.quotas[domain] = JUZVANEC_FIRST_QUOTA;
     fill_table(JUZVANEC_FREE);
 }
 
@@ -138,10 +147,13 @@ static void test_board(void)
     boot();
     ANSWERED(colours(0));
     EXPECT(first, 0x1);
+    EXPECT(second, JUZVANEC_FIRST_QUOTA);
     boot_most();
     for (domain = 0; domain < JUZVANEC_MOST_DOMAINS; domain++) {
+        board.quotas[domain] = 100u + domain;
         ANSWERED(colours(domain));
         EXPECT(first, board.active[domain]);
+        EXPECT(second, 100u + domain);
     }
     REFUSED(colours(JUZVANEC_MOST_DOMAINS), JUZVANEC_REFUSED_CALLER, 0);
     board.domains = JUZVANEC_MOST_DOMAINS + 1u;
@@ -158,6 +170,13 @@ static void test_board(void)
         boot_most();
         board.active[domain] ^= 0xFFFF;
         REFUSED(colours(0), JUZVANEC_REFUSED_ACTIVE, domain);
+        boot_most();
+        board.quotas[domain] = 0;
+        REFUSED(colours(0), JUZVANEC_REFUSED_QUOTA, 0);
+        board.quotas[domain] = JUZVANEC_MOST_QUOTA;
+        ANSWERED(colours(0));
+        board.quotas[domain] = JUZVANEC_MOST_QUOTA + 1u;
+        REFUSED(colours(0), JUZVANEC_REFUSED_QUOTA, 0);
     }
     boot();
     board.grants[1] |= 0x1;
@@ -192,6 +211,31 @@ static void test_table(void)
     EXPECT(JUZVANEC_RESERVED, UINT16_MAX);
     fill_table(JUZVANEC_RESERVED);
     REFUSED(fault(0, 0), JUZVANEC_REFUSED_NO_FRAME, 0);
+}
+
+/* A domain's quota is the field of its number, and no other field changes. */
+static void test_quotas(void)
+{
+    struct juzvanec_board before;
+    uint32_t domain;
+
+    boot_most();
+    for (domain = 0; domain < JUZVANEC_MOST_DOMAINS; domain++) {
+        before = board;
+        before.quotas[domain] = 1;
+        ANSWERED(set_quota(domain, 1));
+        EXPECT(first, 1);
+        EXPECT(memcmp(&board, &before, sizeof board) != 0, 0);
+        ANSWERED(fault(domain, 5));
+        before = board;
+        REFUSED(fault(domain, 6), JUZVANEC_REFUSED_AT_QUOTA, 0);
+        REFUSED(set_quota(domain, 0), JUZVANEC_REFUSED_NEW_QUOTA, 0);
+        REFUSED(set_quota(domain, JUZVANEC_MOST_QUOTA + 1u), JUZVANEC_REFUSED_NEW_QUOTA, 0);
+        EXPECT(memcmp(&board, &before, sizeof board) != 0, 0);
+        ANSWERED(set_quota(domain, JUZVANEC_MOST_QUOTA));
+        EXPECT(first, board.quotas[domain]);
+    }
+    REFUSED(set_quota(JUZVANEC_MOST_DOMAINS, 1), JUZVANEC_REFUSED_CALLER, 0);
 }
 
 static void test_recolour(void)
@@ -333,6 +377,7 @@ static void test_lengths(void)
     REFUSED(admit_plan(), JUZVANEC_REFUSED_TASK_WORDS, 0);
     expect_nothing_written();
     plan();
+    memset(board.quotas, 0, sizeof board.quotas); /* which a plan does not ask for */
     reload = JUZVANEC_MOST_RELOAD;
     ANSWERED(admit_plan());
     reload = JUZVANEC_MOST_RELOAD + 1u;
@@ -453,6 +498,7 @@ int main(void)
     test_pages();
     test_board();
     test_table();
+    test_quotas();
     test_recolour();
     test_lengths();
     test_rows();

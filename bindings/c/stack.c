@@ -67,7 +67,12 @@ static void call_release(void)
 
 static void call_colours(void)
 {
-    juzvanec_colours(&board, table, board.frames, 1, &first, &row);
+    juzvanec_colours(&board, table, board.frames, 1, &first, &second, &row);
+}
+
+static void call_set_quota(void)
+{
+    juzvanec_set_quota(&board, table, board.frames, 1, 300, &first, &row);
 }
 
 static void call_recolour(void)
@@ -130,8 +135,10 @@ static void boot(void)
     as_booted.colours = JUZVANEC_MOST_COLOURS;
     as_booted.frames = JUZVANEC_MOST_FRAMES;
     as_booted.domains = JUZVANEC_MOST_DOMAINS;
-    for (i = 0; i < JUZVANEC_MOST_DOMAINS; i++)
+    for (i = 0; i < JUZVANEC_MOST_DOMAINS; i++) {
         as_booted.grants[i] = as_booted.active[i] = 3u << 2 * i;
+        as_booted.quotas[i] = JUZVANEC_FIRST_QUOTA;
+    }
     for (i = 0; i < JUZVANEC_MOST_FRAMES; i++)
         table[i] = i % 16 == 2 ? JUZVANEC_PAGE_WORD(1, i / 16) : JUZVANEC_FREE;
     for (i = 0; i < JUZVANEC_MOST_VCPUS; i++) {
@@ -173,6 +180,10 @@ static void spoil(unsigned fault)
         vcpus[15].budget = 251;
     if (fault == 9)
         tasks[31].costs[0] = 200000;
+    if (fault == 11)
+        as_booted.quotas[7] = 0;
+    if (fault == 12)
+        as_booted.quotas[1] = 1;
     input_bytes = 0;
     put(&as_booted, 12);
     put(as_booted.grants, sizeof as_booted.grants);
@@ -188,7 +199,7 @@ static size_t most(void (*called)(void))
     size_t deepest = 0, base, bytes;
     unsigned fault, paint;
 
-    for (fault = 0; fault <= 10; fault++)
+    for (fault = 0; fault <= 12; fault++)
         for (paint = 0x5A; paint <= 0xA5; paint += 0xA5 - 0x5A) {
             spoil(fault);
             board = as_booted;
@@ -209,7 +220,8 @@ int main(void)
         void (*called)(void);
     } functions[] = {FUNCTION(interface), FUNCTION(cache_colours), FUNCTION(layout),   FUNCTION(bleach),
                      FUNCTION(look),      FUNCTION(fault),         FUNCTION(release),  FUNCTION(colours),
-                     FUNCTION(recolour),  FUNCTION(part),          FUNCTION(admit_plan), FUNCTION(admit)};
+                     FUNCTION(set_quota), FUNCTION(recolour),      FUNCTION(part),     FUNCTION(admit_plan),
+                     FUNCTION(admit)};
     /* what the README says, and the most that was seen: of a recolouring, of `admit` and of the others */
     static const size_t said[] = {README_RECOLOUR, README_ADMIT, README_OTHERS};
     size_t seen[] = {0, 0, 0}, bytes;

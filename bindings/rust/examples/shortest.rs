@@ -4,7 +4,7 @@
 use juzvanec::{fault, Board, Refusal, FREE};
 
 fn main() -> Result<(), Refusal> {
-    // 4 colours, 8 frames, 2 domains; grants 0x3 and 0xC, both active
+    // 4 colours, 8 frames, 2 domains; grants 0x3 and 0xC, both active; the quotas at first
     let board = Board::new(4, 8, &[0x3, 0xC]);
     let mut table = [FREE; 8];
     let faulted = fault(&board, &mut table, 1, 0)?;

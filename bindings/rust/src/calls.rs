@@ -4,7 +4,7 @@
 
 use core::slice;
 
-use crate::{raw, Board, Faulted, Looked, Refusal, Task, Vcpu, Verdict};
+use crate::{raw, Board, Colours, Faulted, Looked, Refusal, Task, Vcpu, Verdict};
 use crate::{INTERFACE, TASK_WORDS, TEXT_BYTES, VCPU_WORDS};
 
 /// The answer, unless the number is a refusal's.
@@ -90,7 +90,7 @@ pub fn bleach(colours: u32, set: u32, page: u32) -> Result<u32, Refusal> {
     reply(number, row, index)
 }
 
-/// The lowest frame that the domain holds for the page, or unmapped. Refusals 2 to 8, 10.
+/// The lowest frame that the domain holds for the page, or unmapped. Refusals 2 to 7, 26, 8, 10.
 ///
 /// ```
 /// use juzvanec::{look, Board, Looked};
@@ -103,7 +103,7 @@ pub fn bleach(colours: u32, set: u32, page: u32) -> Result<u32, Refusal> {
 pub fn look(board: &Board, table: &[u16], domain: u32, page: u32) -> Result<Looked, Refusal> {
     see_interface();
     let (mut mapped, mut frame, mut row) = (0, 0, 0);
-    // SAFETY: the board has 19 words and the table as many as it says; three words of this function's
+    // SAFETY: the board has 27 words and the table as many as it says; three words of this function's
     // own are lent for writing.
     let number = unsafe {
         raw::juzvanec_look(
@@ -124,9 +124,10 @@ pub fn look(board: &Board, table: &[u16], domain: u32, page: u32) -> Result<Look
     reply(number, row, looked)
 }
 
-/// If the page is mapped, its lowest frame; else a free frame with a colour in the domain's active set,
-/// which gets the page's word: of the colours with a free frame that in which the domain holds the fewest
-/// frames, the lowest on a tie, and of it the lowest free frame. Refusals 2 to 8, 10, 12.
+/// If the page is mapped, its lowest frame, whatever the quota; else, if the domain holds fewer frames than
+/// its quota, a free frame with a colour in its active set, which gets the page's word: of the colours with a
+/// free frame that in which the domain holds the fewest frames, the lowest on a tie, and of it the lowest free
+/// frame. Refusals 2 to 7, 26, 8, 10, 28, 12.
 ///
 /// ```
 /// use juzvanec::{fault, Board, Faulted};
@@ -141,7 +142,7 @@ pub fn look(board: &Board, table: &[u16], domain: u32, page: u32) -> Result<Look
 pub fn fault(board: &Board, table: &mut [u16], domain: u32, page: u32) -> Result<Faulted, Refusal> {
     see_interface();
     let (mut is_new, mut frame, mut row) = (0, 0, 0);
-    // SAFETY: the board has 19 words and the table as many as it says; the table and three words of this
+    // SAFETY: the board has 27 words and the table as many as it says; the table and three words of this
     // function's own are lent for writing.
     let number = unsafe {
         raw::juzvanec_fault(
@@ -163,7 +164,7 @@ pub fn fault(board: &Board, table: &mut [u16], domain: u32, page: u32) -> Result
 }
 
 /// The lowest frame that the domain holds for the page becomes free; the answer is its number. Refusals 2
-/// to 8, 10, 14.
+/// to 7, 26, 8, 10, 14.
 ///
 /// ```
 /// use juzvanec::{release, Board};
@@ -177,7 +178,7 @@ pub fn fault(board: &Board, table: &mut [u16], domain: u32, page: u32) -> Result
 pub fn release(board: &Board, table: &mut [u16], domain: u32, page: u32) -> Result<usize, Refusal> {
     see_interface();
     let (mut frame, mut row) = (0, 0);
-    // SAFETY: the board has 19 words and the table as many as it says; the table and two words of this
+    // SAFETY: the board has 27 words and the table as many as it says; the table and two words of this
     // function's own are lent for writing.
     let number = unsafe {
         raw::juzvanec_release(
@@ -193,18 +194,19 @@ pub fn release(board: &Board, table: &mut [u16], domain: u32, page: u32) -> Resu
     reply(number, row, frame as usize)
 }
 
-/// The domain's active set. Refusals 2 to 8.
+/// The domain's active set and its quota. Refusals 2 to 7, 26, 8.
 ///
 /// ```
-/// use juzvanec::{colours, Board};
+/// use juzvanec::{colours, Board, Colours};
 ///
-/// assert_eq!(colours(&Board::new(4, 3, &[0x3, 0xC]), &[0; 3], 1), Ok(0xC));
+/// let board = Board::new(4, 3, &[0x3, 0xC]);
+/// assert_eq!(colours(&board, &[0; 3], 1), Ok(Colours { set: 0xC, quota: 4096 }));
 /// ```
 #[inline]
-pub fn colours(board: &Board, table: &[u16], domain: u32) -> Result<u32, Refusal> {
+pub fn colours(board: &Board, table: &[u16], domain: u32) -> Result<Colours, Refusal> {
     see_interface();
-    let (mut set, mut row) = (0, 0);
-    // SAFETY: the board has 19 words and the table as many as it says; two words of this function's own
+    let (mut set, mut quota, mut row) = (0, 0, 0);
+    // SAFETY: the board has 27 words and the table as many as it says; three words of this function's own
     // are lent for writing.
     let number = unsafe {
         raw::juzvanec_colours(
@@ -213,16 +215,60 @@ pub fn colours(board: &Board, table: &[u16], domain: u32) -> Result<u32, Refusal
             table.len(),
             domain,
             &mut set,
+            &mut quota,
             &mut row,
         )
     };
-    reply(number, row, set)
+    reply(number, row, Colours { set, quota })
+}
+
+/// The domain's quota in the board becomes this one, and no other field of the board changes; the answer is
+/// the quota. It may be the old one, and may exceed the frames that there are, but is not below the frames that
+/// the domain holds: all with one of its page words, whatever their colour. Refusals 2 to 7, 26, 8, 27.
+///
+/// ```
+/// use juzvanec::{fault, set_quota, Board, Faulted};
+///
+/// let mut board = Board::new(4, 8, &[0x3, 0xC]);
+/// // domain 0 has page 9 in frame 0
+/// let mut table = [10, 0, 0, 0, 0, 0, 0, 0];
+/// assert_eq!(set_quota(&mut board, &table, 0, 1), Ok(1));
+/// assert_eq!(board.quotas[0], 1);
+/// // a page that has its frame keeps it, and no other gets one
+/// assert_eq!(fault(&board, &mut table, 0, 9), Ok(Faulted::Old(0)));
+/// assert_eq!(fault(&board, &mut table, 0, 5).unwrap_err().number, 28);
+/// assert_eq!(set_quota(&mut board, &table, 0, 0).unwrap_err().number, 27);
+/// ```
+#[inline]
+pub fn set_quota(
+    board: &mut Board,
+    table: &[u16],
+    domain: u32,
+    quota: u32,
+) -> Result<u32, Refusal> {
+    see_interface();
+    let (mut answer, mut row) = (0, 0);
+    // SAFETY: the board has 27 words and the table as many as it says; the board and two words of this
+    // function's own are lent for writing.
+    let number = unsafe {
+        raw::juzvanec_set_quota(
+            board,
+            table.as_ptr(),
+            table.len(),
+            domain,
+            quota,
+            &mut answer,
+            &mut row,
+        )
+    };
+    reply(number, row, answer)
 }
 
 /// Makes the set active: the domain's frames outside it, ascending, go one by one to free frames inside
 /// it, each chosen as [`fault`] chooses, with the frames that were moved before counted. The answer is the
 /// count of moves; the move list gets a page, an old and a new frame for each, by ascending page and, for
-/// equal pages, by ascending old frame, and its rest does not change. Refusals 2 to 9, 12, 13.
+/// equal pages, by ascending old frame, and its rest does not change. A quota stops no recolouring, since the
+/// frames held stay as many. Refusals 2 to 7, 26, 8, 9, 12, 13.
 ///
 /// ```
 /// use juzvanec::{recolour, Board};
@@ -248,7 +294,7 @@ pub fn recolour(
 ) -> Result<usize, Refusal> {
     see_interface();
     let (mut count, mut row) = (0, 0);
-    // SAFETY: the board has 19 words, and the table and the move list as many as they say; all three and
+    // SAFETY: the board has 27 words, and the table and the move list as many as they say; all three and
     // two words of this function's own are lent for writing.
     let number = unsafe {
         raw::juzvanec_recolour(
@@ -297,7 +343,8 @@ pub fn part(tasks: &[u32], vcpu: u32) -> &[u32] {
 /// earlier row of the VCPU (for a VCPU, of the core), the deadline over that row's period, rounded up,
 /// less 1; this holds of searches that end late, too.
 ///
-/// Refusals 2 to 7, 15 to 22; 16 also where either of the two lists is shorter than the rows.
+/// Refusals 2 to 7, 15 to 22; 16 also where either of the two lists is shorter than the rows. The board's
+/// quotas are not looked at.
 ///
 /// ```
 /// use juzvanec::{admit_plan, Board, Task, Vcpu};
@@ -325,7 +372,7 @@ pub fn admit_plan(
 ) -> Result<(), Refusal> {
     see_interface();
     let mut row = 0;
-    // SAFETY: the board has 19 words and the lists as many as they say; the lists of times and of rounds
+    // SAFETY: the board has 27 words and the lists as many as they say; the lists of times and of rounds
     // and a word of this function's own are lent for writing.
     let number = unsafe {
         raw::juzvanec_admit_plan(

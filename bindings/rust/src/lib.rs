@@ -1,5 +1,5 @@
 //! Cache-coloured frames for guest systems and the admission of task plans: safe functions over the
-//! proved library `libjuzvanec.a`. Terms, numbers and refusals are those of document 01. Nothing here
+//! proved library `libjuzvanec.a`. Terms, numbers and refusals are those of documents 01 and 02. Nothing here
 //! allocates or keeps anything between calls. A refused call changes nothing that was lent; [`admit`], to
 //! which only the input is lent, has a text and the words that the plan took on a refusal too, since a
 //! refusal is what the program prints. Every function panics where the archive that was linked is of
@@ -32,7 +32,8 @@ pub mod raw;
 
 pub use board::Board;
 pub use calls::{
-    admit, admit_plan, bleach, cache_colours, colours, fault, layout, look, part, recolour, release,
+    admit, admit_plan, bleach, cache_colours, colours, fault, layout, look, part, recolour,
+    release, set_quota,
 };
 pub use refusal::{row_names, Refusal, RowNames};
 pub use rows::{Task, Vcpu};
@@ -40,7 +41,7 @@ pub use text::Verdict;
 
 /// The number of the C interface that this package is for. An archive of another number makes every
 /// function panic; [`raw::juzvanec_interface`] tells that of the archive.
-pub const INTERFACE: u32 = 5;
+pub const INTERFACE: u32 = 6;
 
 /// The most colours of a cache.
 pub const COLOURS: usize = 16;
@@ -48,6 +49,10 @@ pub const COLOURS: usize = 16;
 pub const DOMAINS: usize = 8;
 /// The most frames of a board.
 pub const FRAMES: usize = 4096;
+/// The most frames that a domain's quota may be.
+pub const MOST_QUOTA: u32 = 4096;
+/// The quota that a domain has at first, which holds it back nowhere.
+pub const FIRST_QUOTA: u32 = 4096;
 /// The most VCPU rows of a plan.
 pub const VCPUS: usize = 16;
 /// The most task rows of a plan.
@@ -111,4 +116,13 @@ impl Faulted {
             Faulted::Old(frame) | Faulted::New(frame) => frame,
         }
     }
+}
+
+/// What a domain is told of its colours.
+#[derive(Clone, Copy, Debug, PartialEq, Eq, Hash)]
+pub struct Colours {
+    /// The active set: bit c for colour c.
+    pub set: u32,
+    /// The frames that the domain may hold.
+    pub quota: u32,
 }

@@ -65,6 +65,17 @@ extern "C" {
         table_words: usize,
         domain: u32,
         set: *mut u32,
+        quota: *mut u32,
+        row: *mut u32,
+    ) -> u32;
+
+    pub fn juzvanec_set_quota(
+        board: *mut Board,
+        table: *const u16,
+        table_words: usize,
+        domain: u32,
+        quota: u32,
+        answer: *mut u32,
         row: *mut u32,
     ) -> u32;
 

@@ -2,7 +2,7 @@
 
 use core::fmt;
 
-/// Why a call was refused: document 01's number, and the lowest domain or row at fault, or else 0.
+/// Why a call was refused: the number of document 01 or 02, and the lowest domain or row at fault, or else 0.
 ///
 /// ```
 /// use juzvanec::{fault, Board};
@@ -74,6 +74,9 @@ impl Refusal {
             20 => "the task row shares a colour with a row of another VCPU",
             21 => "the VCPU has no time up to its period",
             22 => "the task has no time up to its deadline",
+            26 => "a quota of the board is 0 or above 4,096",
+            27 => "the quota asked for is 0, above 4,096 or below the frames held",
+            28 => "the page is unmapped, and the frames held are at or above the quota",
             _ => "no such refusal",
         }
     }

@@ -19,7 +19,11 @@ fn most_domains() -> Board {
 fn limits_of_a_board() {
     let board = most_domains();
     let last = DOMAINS as u32 - 1;
-    assert_eq!(colours(&board, &[FREE; 16], last), Ok(0xC000));
+    let first = |set| {
+        let quota = FIRST_QUOTA;
+        Ok(Colours { set, quota })
+    };
+    assert_eq!(colours(&board, &[FREE; 16], last), first(0xC000));
     let crowded = Board {
         domains: DOMAINS as u32 + 1,
         ..board
@@ -29,7 +33,7 @@ fn limits_of_a_board() {
         let board = Board::new(1, frames as u32, &[1]);
         colours(&board, &vec![FREE; frames], 0)
     };
-    assert_eq!(frames(FRAMES), Ok(1));
+    assert_eq!(frames(FRAMES), first(1));
     assert_eq!(frames(FRAMES + 1), refused(3, 0));
     assert_eq!(layout(COLOURS as u32, 1, 0), Ok(0));
     assert_eq!(layout(COLOURS as u32 + 1, 1, 0), refused(2, 0));
@@ -45,8 +49,37 @@ fn fields_of_a_board() {
         domains: 2,
         grants: [0x3, 0xC, 0, 0, 0, 0, 0, 0],
         active: [0x1, 0x8, 0, 0, 0, 0, 0, 0],
+        quotas: [5, 99, 0, 0, 0, 0, 0, 0],
     };
-    assert_eq!(colours(&board, &[FREE; 8], 1), Ok(0x8));
+    let told = colours(&board, &[FREE; 8], 1);
+    assert_eq!(
+        told,
+        Ok(Colours {
+            set: 0x8,
+            quota: 99
+        })
+    );
+}
+
+/// A quota of the board and one that is asked for.
+#[test]
+fn limits_of_quotas() {
+    let mut board = most_domains();
+    let table = [FREE; 16];
+    let last = DOMAINS as u32 - 1;
+    for quota in [1, MOST_QUOTA] {
+        assert_eq!(set_quota(&mut board, &table, last, quota), Ok(quota));
+        assert_eq!(board.quotas[DOMAINS - 1], quota);
+        assert!(colours(&board, &table, 0).is_ok());
+    }
+    for quota in [0, MOST_QUOTA + 1] {
+        let asked = set_quota(&mut board, &table, last, quota);
+        assert_eq!(asked, refused(27, 0));
+        board.quotas[DOMAINS - 1] = quota;
+        assert_eq!(colours(&board, &table, 0), refused(26, 0));
+        board.quotas[DOMAINS - 1] = FIRST_QUOTA;
+    }
+    assert_eq!(FIRST_QUOTA, 4096);
 }
 
 #[test]
@@ -223,7 +256,7 @@ fn documented() -> Vec<(u32, String, RowNames)> {
 }
 
 /// What tells each meaning from the others, in words that the page has too.
-const WORDS: [(u32, &[&str]); 22] = [
+const WORDS: [(u32, &[&str]); 25] = [
     (1, &["domains", "tasks", "input"]),
     (2, &["not 1, 2, 4, 8 or 16"]),
     (3, &["frame", "table", "0 or above 4,096"]),
@@ -249,6 +282,12 @@ const WORDS: [(u32, &[&str]); 22] = [
     (20, &["task row", "shares a colour", "another vcpu"]),
     (21, &["vcpu has no time", "period"]),
     (22, &["task has no time", "deadline"]),
+    (26, &["a quota of the board", "0 or above 4,096"]),
+    (
+        27,
+        &["quota asked for is 0, above 4,096 or below the frames held"],
+    ),
+    (28, &["unmapped", "frames held are at or above the quota"]),
 ];
 
 fn meaning(number: u32) -> String {

@@ -93,7 +93,8 @@ fn limits_of_pages_and_moves() {
     let short = recolour(&mut board, &mut table, 0, 0x2, &mut [0; 2]);
     assert_eq!(short, refused(13, 0));
     assert_eq!(recolour(&mut board, &mut table, 0, 0x1, &mut []), Ok(0));
-    assert_eq!(colours(&board, &table, 0), Ok(0x1));
+    let told = colours(&board, &table, 0).expect("the board is accepted");
+    assert_eq!(told.set, 0x1);
     assert_eq!(release(&board, &mut table, 0, 4095), Ok(0));
     assert_eq!(table, [FREE; 8]);
 }

@@ -9,7 +9,7 @@ use juzvanec::*;
 type Call = (&'static str, fn() -> bool);
 
 /// Every safe function that calls the archive.
-const CALLS: [Call; 11] = [
+const CALLS: [Call; 12] = [
     ("cache_colours", || cache_colours(4096, 1).is_ok()),
     ("layout", || layout(1, 1, 0).is_ok()),
     ("bleach", || bleach(1, 1, 0).is_ok()),
@@ -17,6 +17,9 @@ const CALLS: [Call; 11] = [
     ("fault", || fault(&board(), &mut [FREE], 0, 0).is_ok()),
     ("release", || release(&board(), &mut [FREE], 0, 0).is_ok()),
     ("colours", || colours(&board(), &[FREE], 0).is_ok()),
+    ("set_quota", || {
+        set_quota(&mut board(), &[FREE], 0, 1).is_ok()
+    }),
     ("recolour", || {
         recolour(&mut board(), &mut [FREE], 0, 1, &mut []).is_ok()
     }),

@@ -1,13 +1,15 @@
 //! The prototypes of the header and of `raw` are those of the library's source, name by name and type by
-//! type. All three are read as text and brought to one form, that of Rust's raw pointers.
+//! type. All three are read as text and brought to one form, that of Rust's raw pointers. A board is lent as
+//! its words or, by the function that changes one of its fields, as the record of them; that record's fields
+//! are those of the two structs here.
 
 use std::fs;
 use std::path::{Path, PathBuf};
 
-use juzvanec::{Board, TEXT_BYTES};
+use juzvanec::{Board, DOMAINS, TEXT_BYTES};
 
 /// The functions that there were when this was written: a shorter list was not read right.
-const LEAST: usize = 12;
+const LEAST: usize = 13;
 
 #[derive(Clone, Debug, PartialEq)]
 struct Prototype {
@@ -67,14 +69,75 @@ fn lent(name: &str, kind: &str) -> Vec<Parameter> {
     }
 }
 
-/// The functions that the library exports.
+/// A field of a board, and how many words it has.
+type Field = (String, usize);
+
+/// The fields of the struct of this name, as Rattle and Rust write them: `pub name: u32` or, for eight words,
+/// an array of them. They stand in this order in memory, with `#[repr(C)]` before them.
+fn fields(source: &str, name: &str) -> Vec<Field> {
+    let start = format!("\npub struct {name} {{\n");
+    let (head, rest) = source.split_once(&start).expect("the struct");
+    let attributes = head.lines().rev().take_while(|line| line.starts_with("#["));
+    assert!({ attributes }.any(|line| line == "#[repr(C)]"), "{name}");
+    let (list, _) = rest.split_once("\n}").expect("its end");
+    let list = list.lines().map(str::trim);
+    let list = list.filter(|line| !line.starts_with("//"));
+    let field = list.map(|line| {
+        let line = line.strip_prefix("pub ").and_then(|l| l.strip_suffix(','));
+        let (name, kind) = line.and_then(|l| l.split_once(": ")).expect("a field");
+        let words = match kind {
+            "u32" => 1,
+            "[u32; 8]" | "[u32; DOMAINS]" => DOMAINS,
+            _ => panic!("{name} is {kind}?"),
+        };
+        (name.to_string(), words)
+    });
+    field.collect()
+}
+
+/// The fields of the header's board.
+fn fields_of_header(header: &str) -> Vec<Field> {
+    let text = plain(header);
+    let (_, rest) = text
+        .split_once("struct juzvanec_board {")
+        .expect("the struct");
+    let (list, _) = rest.split_once('}').expect("its end");
+    let list = list.split(';').map(str::trim).filter(|one| !one.is_empty());
+    let field = list.map(|one| {
+        let field = one.strip_prefix("uint32_t ").expect("a word, or several");
+        match field.strip_suffix(']').and_then(|f| f.split_once('[')) {
+            None => (field.to_string(), 1),
+            Some((name, length)) => {
+                let words = constant(header, length).parse().expect("a number");
+                (name.to_string(), words)
+            }
+        }
+    });
+    field.collect()
+}
+
+/// The fields of the library's record.
+fn fields_of_library() -> Vec<Field> {
+    fields(&text_of("crates/board/src/lib.rt"), "Board")
+}
+
+fn words(fields: &[Field]) -> usize {
+    fields.iter().map(|(_, words)| words).sum()
+}
+
+/// The functions that the library exports. A record is its words.
 fn of_library() -> Vec<Prototype> {
+    let board = format!("[u32; {}]", words(&fields_of_library()));
     let sources = fs::read_dir(repository().join("crates/juzvanec/src")).expect("sources");
     let sources = sources.map(|entry| fs::read_to_string(entry.expect("a file").path()));
     let sources: Vec<String> = sources.map(|text| text.expect("text")).collect();
     let mark = "#[no_mangle]\npub extern \"C\" fn ";
     let exported = sources.iter().flat_map(|text| text.split(mark).skip(1));
-    in_order(exported.map(|text| signature(text, lent)).collect())
+    let parameters = |name: &str, kind: &str| {
+        let kind = kind.replace("board::Board", "Board");
+        lent(name, &kind.replace("Board", &board))
+    };
+    in_order(exported.map(|text| signature(text, parameters)).collect())
 }
 
 /// The functions of `raw`, whose `Board` is so many words.
@@ -213,6 +276,20 @@ fn header_and_raw_have_the_prototypes_of_the_library() {
     assert_eq!(difference(&library, &header), None);
     assert_eq!(difference(&library, &raw), None);
     assert_eq!(header, raw);
+}
+
+/// What is read of a record whose fields change, or have another order, would be another domain's.
+#[test]
+fn header_and_binding_have_the_fields_of_the_librarys_board() {
+    let library = fields_of_library();
+    let header = text_of("include/juzvanec.h");
+    assert_eq!(fields_of_header(&header), library);
+    let binding = text_of("bindings/rust/src/board.rs");
+    assert_eq!(fields(&binding, "Board"), library);
+    let said = constant(&header, "JUZVANEC_BOARD_WORDS");
+    assert_eq!(words(&library).to_string(), said);
+    assert_eq!(words(&library), size_of::<Board>() / size_of::<u32>());
+    assert_eq!(library.len(), 6);
 }
 
 /// Every text that has one occurrence of a word replaced.

@@ -1,6 +1,6 @@
 //! Thousands of random calls through the binding, each held against plain properties: refusals change
-//! nothing, faults and looks agree, no guest gets another's colours, moves account for the table and stand in
-//! page order.
+//! nothing, faults and looks agree, no guest gets another's colours or holds more than its quota, moves account
+//! for the table and stand in page order.
 
 use std::collections::BTreeSet;
 
@@ -55,12 +55,21 @@ impl Machine {
         self.table.iter().filter(own).count()
     }
 
+    /// Whether the domain, if it is one, holds as many frames as it may.
+    fn at_quota(&self, domain: u32) -> bool {
+        let quota = self.board.quotas.get(domain as usize);
+        quota.is_some_and(|quota| self.held(domain) == *quota as usize)
+    }
+
     fn fault(&mut self, domain: u32, page: u32) {
         let before = self.table.clone();
         let seen = look(&self.board, &self.table, domain, page);
+        let at_quota = self.at_quota(domain);
         match fault(&self.board, &mut self.table, domain, page) {
             Err(Refusal { number, .. }) => {
-                assert!([8, 10, 12].contains(&number));
+                assert!([8, 10, 12, 28].contains(&number));
+                // an unmapped page at the quota is 28, and nothing else is
+                assert_eq!(number == 28, at_quota && seen == Ok(Looked::Unmapped));
                 assert_eq!(self.table, before);
             }
             Ok(Faulted::Old(frame)) => {
@@ -68,6 +77,7 @@ impl Machine {
                 assert_eq!(self.table, before);
             }
             Ok(Faulted::New(frame)) => {
+                assert!(!at_quota);
                 assert_eq!(seen, Ok(Looked::Unmapped));
                 assert_eq!(before[frame], FREE);
                 let mut expected = before;
@@ -91,6 +101,27 @@ impl Machine {
                 assert_eq!(self.table[frame], FREE);
                 let again = look(&self.board, &self.table, domain, page);
                 assert_eq!(again, Ok(Looked::Unmapped));
+            }
+        }
+    }
+
+    fn set_quota(&mut self, domain: u32, quota: u32) {
+        let before = self.board;
+        let right = (1..=MOST_QUOTA).contains(&quota) && self.held(domain) <= quota as usize;
+        match set_quota(&mut self.board, &self.table, domain, quota) {
+            Err(Refusal { number, .. }) => {
+                assert!(number == 8 || number == 27 && !right);
+                assert_eq!(self.board, before);
+            }
+            Ok(answer) => {
+                assert!(right);
+                assert_eq!(answer, quota);
+                let mut expected = before;
+                expected.quotas[domain as usize] = quota;
+                assert_eq!(self.board, expected);
+                let told = colours(&self.board, &self.table, domain);
+                let set = before.active[domain as usize];
+                assert_eq!(told, Ok(Colours { set, quota }));
             }
         }
     }
@@ -126,23 +157,29 @@ impl Machine {
             table.swap(old, new);
         }
         assert_eq!(table, self.table);
-        assert_eq!(colours(&self.board, &self.table, domain), Ok(set));
+        let told = colours(&self.board, &self.table, domain);
+        assert_eq!(told.map(|told| told.set), Ok(set));
     }
 }
 
 #[test]
 fn frames() {
     let mut random = Random(2003);
-    let mut most = 0;
+    let (mut most, mut at_quota) = (0, 0);
     for _ in 0..300 {
         let mut machine = Machine::new(&mut random);
         for _ in 0..100 {
             let domain = random.mostly(3);
             let page = random.mostly(12);
             let others: Vec<usize> = (0..3).map(|other| machine.held(other)).collect();
-            match random.below(8) {
+            match random.below(10) {
                 0 | 1 => machine.release(domain, page),
                 2 => {
+                    let near = machine.held(domain) as u32 + random.below(4) as u32;
+                    let quota = [near, near, random.mostly(60), FIRST_QUOTA];
+                    machine.set_quota(domain, quota[random.below(4) as usize].wrapping_sub(1));
+                }
+                3 => {
                     let grant = machine.board.grants.get(domain as usize).unwrap_or(&1);
                     let set = random.mostly(256) & (grant | random.below(2) as u32);
                     machine.recolour(domain, set, random.below(40) as usize);
@@ -153,10 +190,15 @@ fn frames() {
             for other in (0..3).filter(|other| *other != domain) {
                 assert_eq!(machine.held(other), others[other as usize]);
             }
+            for domain in 0..3 {
+                assert!(machine.held(domain) <= machine.board.quotas[domain as usize] as usize);
+                at_quota += u32::from(machine.at_quota(domain));
+            }
             most = most.max(machine.held(0));
         }
     }
     assert!(most >= 8, "tables fill up");
+    assert!(at_quota > 1000, "{at_quota} times at a quota");
 }
 
 /// A laid-out page bleaches back, and its colour is in the set.

@@ -29,10 +29,10 @@ fn frames(
     (refusal.number, refusal.row)
 }
 
-/// 2 to 7, the same of all five calls.
+/// 2 to 7, 26 and 8, the same of all six calls.
 #[test]
 fn boards() {
-    let spoils: [SpoiltFrames; 9] = [
+    let spoils: [SpoiltFrames; 14] = [
         (2, 0, |board, _| board.colours = 3),
         (3, 0, |board, _| board.frames = 4097),
         (3, 0, |_, table| table.push(0)),
@@ -41,7 +41,13 @@ fn boards() {
         (5, 1, |board, _| board.grants[1] = 0x1C),
         (6, 0, |board, _| board.grants[1] = 0xE),
         (7, 1, |board, _| board.active[1] = 0x2),
+        (26, 0, |board, _| board.quotas[1] = 0),
+        (26, 0, |board, _| board.quotas[0] = 4097),
         (8, 0, |board, _| board.domains = 1),
+        // behind 7 and before 8, and of domains below the count alone
+        (7, 1, |b, _| (b.active[1], b.quotas[0]) = (0x2, 0)),
+        (26, 0, |b, _| (b.domains, b.quotas[0]) = (1, 0)),
+        (8, 0, |b, _| (b.domains, b.quotas[1]) = (1, 0)),
     ];
     for (number, row, spoil) in spoils {
         let expected = (number, row);
@@ -50,13 +56,15 @@ fn boards() {
         assert_eq!(frames(spoil, |b, t, _| fault(b, t, 1, 3).err()), expected);
         assert_eq!(frames(spoil, |b, t, _| release(b, t, 1, 0).err()), expected);
         assert_eq!(frames(spoil, |b, t, _| colours(b, t, 1).err()), expected);
+        let asked = |b: &mut Board, t: &mut [u16], _: &mut [u16]| set_quota(b, t, 1, 0).err();
+        assert_eq!(frames(spoil, asked), expected);
         let recoloured =
             |b: &mut Board, t: &mut [u16], m: &mut [u16]| recolour(b, t, 1, 0x4, m).err();
         assert_eq!(frames(spoil, recoloured), expected);
     }
 }
 
-/// 9, 10, 12, 13 and 14.
+/// 9, 10, 12, 13, 14, 27 and 28.
 #[test]
 fn calls() {
     let sound = |_: &mut Board, _: &mut Vec<u16>| {};
@@ -82,6 +90,13 @@ fn calls() {
         |b: &mut Board, t: &mut [u16], m: &mut [u16]| recolour(b, t, 0, 0x1, &mut m[..2]).err();
     assert_eq!(frames(sound, two), (13, 0));
     assert_eq!(frames(sound, |b, t, _| release(b, t, 0, 3).err()), (14, 0));
+    // domain 0 holds two frames
+    for quota in [0, 1, 4097, u32::MAX] {
+        let asked = |b: &mut Board, t: &mut [u16], _: &mut [u16]| set_quota(b, t, 0, quota).err();
+        assert_eq!(frames(sound, asked), (27, 0));
+    }
+    let at_quota = |board: &mut Board, _: &mut Vec<u16>| board.quotas[0] = 2;
+    assert_eq!(frames(at_quota, |b, t, _| fault(b, t, 0, 3).err()), (28, 0));
 }
 
 #[test]
@@ -162,7 +177,7 @@ fn refusal(spoil: impl Fn(&mut Plan)) -> Option<(u32, u32)> {
 
 #[test]
 fn plans() {
-    let spoils: [SpoiltPlan; 20] = [
+    let spoils: [SpoiltPlan; 21] = [
         (2, 0, |plan| plan.board.colours = 5),
         (3, 0, |plan| plan.board.frames = 0),
         (4, 0, |plan| plan.board.domains = 9),
@@ -170,6 +185,8 @@ fn plans() {
         (6, 0, |plan| plan.board.grants[1] = 0xD),
         (7, 1, |plan| plan.board.active[1] = 0x1),
         (15, 0, |plan| plan.reload = 10_001),
+        // the quotas of the board are not looked at
+        (15, 0, |p| (p.reload, p.board.quotas[0]) = (10_001, 0)),
         (15, 0, |plan| plan.vcpus.truncate(7)),
         (16, 0, |plan| plan.tasks.clear()),
         (16, 0, |plan| plan.times = 3),
@@ -186,6 +203,7 @@ fn plans() {
         (22, 1, |plan| plan.tasks[22] = 109),
     ];
     assert_eq!(refusal(|_| {}), None);
+    assert_eq!(refusal(|plan| plan.board.quotas = [0; DOMAINS]), None);
     for (number, row, spoil) in spoils {
         assert_eq!(refusal(spoil), Some((number, row)));
     }
@@ -214,6 +232,10 @@ fn meanings() {
     assert_eq!(
         shown(7, 3),
         "refused 7, domain 3: an active set is empty or has a colour outside its grant"
+    );
+    assert_eq!(
+        shown(28, 0),
+        "refused 28: the page is unmapped, and the frames held are at or above the quota"
     );
     assert_eq!(
         shown(21, 2),

@@ -1,19 +1,21 @@
--- What it means that 2 to 8 pass: the lists of tests taken apart and put together, and the bounds that each test leaves. Whoever relies
--- on 2 to 8 cites this file and no list.
+-- What it means that 2 to 8 and 26 pass: the lists of tests taken apart and put together, and the bounds that each test leaves. Whoever relies
+-- on them cites this file and no list.
 use Prim.Native.Nat.{ℕ, _<_, _≤_}
 use native.Mathlib.Nat.{pos-of-ne-zero}
-use mathlib.Core.Bool.{true, false, not}
+use mathlib.Core.Bool.{true, false}
 use mathlib.Core.List.{List, [], _∷_, _++_}
 use mathlib.Core.Path.{_≡_}
 use lib.Dec.{eqb, ltb}
+use lib.ListN.{length, getD, List·getD-eq-default}
 use borrow.Author.Tests.{ltb-true, ltb-false, eqb-true, eqb-false, not-false}
-use Rattle.lists.proofs.Split.{neither}
+use Rattle.lists.proofs.Split.{below-or-not, neither}
+use Rattle.lists.proofs.Found.{any-none, none-any}
 use Rattle.refusal.specs.Reply.{Answers, Test, test, each, passes}
 use Rattle.refusal.proofs.Replies.{passed-first, answers-passed}
 use Rattle.refusal.proofs.Order.{passed-earlier, passed-later, passed-both, each-passed, each-passes}
 use Rattle.colours.specs.Cache.{isColourCount, countTest}
 use Rattle.board.specs.declared.Board.{Board}
-use Rattle.board.specs.Tests.{badFrames, badDomains, badGrant, sharesWithAnother, badActive, callerTest, domainTests, boardTests, stateTests, callTests, callReply}
+use Rattle.board.specs.Tests.{badFrames, badDomains, badGrant, sharesWithAnother, badActive, quota, noQuota, badQuotas, quotasTest, callerTest, domainTests, boardTests, stateTests, callTests, callReply}
 
 -- 2 to 7, test by test
 pub record Passed (b : Board) (words : ℕ) : Type 0 where
@@ -79,16 +81,49 @@ sized b words p =
 pub caller-below : (b : Board) (d : ℕ) → callerTest b d .fails ≡ false → d < b .domains
 caller-below b d e = ltb-true _ _ (not-false _ e)
 
--- a call whose 2 to 8 pass
+-- 26, domain by domain
+pub quotas-split : (b : Board) → badQuotas b ≡ false → (d : ℕ) → d < b .domains → noQuota (quota b d) ≡ false
+unfolding badQuotas
+quotas-split b e d l = any-none (λ (d : ℕ). noQuota (quota b d)) (b .domains) d e l
+
+pub quotas-join : (b : Board) → ((d : ℕ) → d < b .domains → noQuota (quota b d) ≡ false) → badQuotas b ≡ false
+unfolding badQuotas
+quotas-join b each = none-any (λ (d : ℕ). noQuota (quota b d)) (b .domains) each
+
+pub quota-range : (q : ℕ) → noQuota q ≡ false → (0 < q) × (q ≤ 4096)
+quota-range q e =
+    let n = neither (eqb q 0) (ltb 4096 q) e in
+    (pos-of-ne-zero (eqb-false _ _ (n .0)), ltb-false _ _ (n .1))
+
+-- a domain whose quota is one has its place in the list
+pub quota-placed : (qs : List ℕ) (d : ℕ) → noQuota (getD qs d 0) ≡ false → d < length qs
+quota-placed qs d e =
+    below-or-not d (length qs) (λ l. l)
+    (λ l. absurd (eqb-false (getD qs d 0) 0 (neither _ _ e .0) (List·getD-eq-default qs 0 l)))
+
+-- of a state: 2 to 7, and 26
+pub state-split : (b : Board) (words : ℕ) → passes (stateTests b words) ≡ true → (passes (boardTests b words) ≡ true) × (badQuotas b ≡ false)
+unfolding stateTests
+state-split b words e =
+    let last = passed-later (boardTests b words) (quotasTest b ∷ []) e in
+    (passed-earlier (boardTests b words) (quotasTest b ∷ []) e, passed-first (quotasTest b) [] last .0)
+
+pub state-join : (b : Board) (words : ℕ) → passes (boardTests b words) ≡ true → badQuotas b ≡ false → passes (stateTests b words) ≡ true
+unfolding stateTests passes
+state-join b words p q = passed-both (boardTests b words) (quotasTest b ∷ []) p (rw q)
+
+-- a call whose 2 to 7, 26 and 8 pass
 pub record Accepted (b : Board) (words d : ℕ) : Type 0 where
   pub passed : Passed b words
   pub bounds : Sized b words
+  pub quotas : badQuotas b ≡ false
   pub caller : d < b .domains
 
 pub accepted : (b : Board) (words d : ℕ) → callReply b words d ≡ Answers tt → Accepted b words d
 unfolding callReply callTests
 accepted b words d e =
     let all = answers-passed (callTests b words d) tt tt e .0 in
-    let p = split b words (passed-earlier (stateTests b words) (callerTest b d ∷ []) all) in
+    let state = state-split b words (passed-earlier (stateTests b words) (callerTest b d ∷ []) all) in
+    let p = split b words (state .0) in
     let eight = passed-first (callerTest b d) [] (passed-later (stateTests b words) (callerTest b d ∷ []) all) in
-    record { passed = p; bounds = sized b words p; caller = caller-below b d (eight .0) }
+    record { passed = p; bounds = sized b words p; quotas = state .1; caller = caller-below b d (eight .0) }

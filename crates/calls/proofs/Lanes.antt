@@ -19,10 +19,11 @@ use Rattle.lists.proofs.Fewest.{fewest-found, same-fewest}
 use Rattle.colours.specs.Cache.{isColourCount}
 use Rattle.colours.specs.Sets.{has}
 use Rattle.colours.proofs.Ranges.{count-range}
+use Rattle.board.specs.declared.Board.{Board}
 use Rattle.kept.specs.Kept.{isOwn, zeros, countAll, noteAll}
 use Rattle.kept.specs.Lanes.{sumLanes}
 use Rattle.kept.proofs.Lanes.{sum-counted, least-noted}
-use Rattle.calls.specs.Table.{word, wordOf, isOf, hasWord, isFree, isHeld}
+use Rattle.calls.specs.Table.{stateOf, word, wordOf, isOf, hasWord, isFree, isHeld, framesWith, framesHeld}
 use Rattle.calls.specs.Choices.{ofColour, inColour, nextColour, nextFrame}
 use Rattle.calls.specs.OnePass.{isLaneOf, heldBy, freeBy, colourBy, frameBy}
 use Rattle.calls.proofs.InColour.{same-count, none-counts}
@@ -38,6 +39,15 @@ one-colour n f e =
 -- the 4,096 words of a domain, from its first on
 pub own-words : (d x : ℕ) → isOwn (wordOf d 0) x ≡ isOf d x
 own-words d x = let same : wordOf d 0 + 4095 ≡ wordOf d 4095 = omega arith in ap (λ (y : ℕ). leb (wordOf d 0) x && leb x y) same
+
+-- all lanes have counted the frames that the domain holds
+pub all-held : (b : Board) (d : ℕ) (t : List ℕ) → length t ≡ b .frames
+    → sumLanes (λ (i : ℕ). true) (countAll (isOwn (wordOf d 0)) zeros 0 t) ≡ framesHeld (stateOf b t) d
+unfolding framesHeld framesWith
+all-held b d t long =
+    sum-counted t (isOwn (wordOf d 0)) (λ (i : ℕ). true)
+    ∙ ap length (same-kept _ _ (length t) (λ f l. and-true (isOwn (wordOf d 0) (word t f)) ∙ own-words d (word t f)))
+    ∙ ap (λ (m : ℕ). length (keep (isHeld t d) (upto m))) long
 
 -- whether a search finds one is whether any passes
 found-some : (p : ℕ → Bool) (m : ℕ) → ltb (lowest p m) m ≡ ltb 0 (length (keep p (upto m)))

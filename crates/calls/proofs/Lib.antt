@@ -4,6 +4,7 @@ pub mod Choice
 pub mod OneByOne
 pub mod Settled
 pub mod NewFrame
+pub mod Quotas
 pub mod Recoloured
 pub mod Targets
 pub mod Moves

@@ -1,35 +1,35 @@
--- The theorem of document 02, No. 2, with the choice of No. 7: the numbers kept after any first part of the table, with the words after it, give the fault's
+-- The theorem of document 02, No. 2, with the choice of No. 7 and the quota of No. 6: the numbers kept after any first part of the table, with the words after it, give the fault's
 -- answer and the frame that gets the word; and that these numbers are few and small. The code of the fault goes by its three cases at the end.
 use Prim.Native.Nat.{ℕ, suc, _+_, _-_, _^_, _<_, _≤_}
 use native.Mathlib.Nat.{lt-irrefl}
 use native.Mathlib.Omega.{arith}
-use mathlib.Core.Bool.{Bool, true, false, _&&_}
+use mathlib.Core.Bool.{Bool, true, false}
 use mathlib.Core.List.{List, [], _∷_, _++_}
 use mathlib.Core.Path.{_≡_, refl, sym, ap, _∙_}
-use lib.Dec.{eqb, ltb}
+use lib.Dec.{eqb, ltb, leb}
 use lib.Bits.{bitAnd, and-le-r}
 use lib.ListN.{length, length-append}
 use borrow.Author.Tests.{lt-ltb, le-ltb, eqb-true, not-false}
-use Rattle.lists.specs.Range.{upto, keep, any, lowest, isEmpty}
-use Rattle.lists.proofs.Split.{below-or-not, neither}
+use Rattle.lists.specs.Range.{upto, keep, any, lowest}
+use Rattle.lists.proofs.Split.{cases, below-or-not, neither}
 use Rattle.lists.proofs.Members.{member-has}
 use Rattle.lists.proofs.Found.{kept-found, kept-missed}
-use Rattle.refusal.specs.Reply.{Answers, Refuses, test, unless, passes}
+use Rattle.refusal.specs.Reply.{Answers, Refuses, unless, passes}
 use Rattle.colours.specs.Cache.{isColourCount}
 use Rattle.colours.proofs.Ranges.{count-range, colour-set}
 use Rattle.board.specs.declared.Board.{Board}
-use Rattle.board.specs.Tests.{grant, activeSet}
-use Rattle.board.proofs.Passed.{Accepted}
+use Rattle.board.specs.Tests.{grant, activeSet, quota}
+use Rattle.board.proofs.Passed.{Accepted, quotas-split, quota-range}
 use Rattle.kept.specs.declared.Kept.{Kept}
 use Rattle.kept.specs.Kept.{isOwn, zeros, Within, countAll, noteAll, start, soFar, found, numbers}
 use Rattle.kept.proofs.Closed.{zeros-length, zeros-within, take-append, has-come, not-come, sound}
 use Rattle.calls.specs.Table.{State, stateOf, wordOf, hasWord, isFree, isHeld, framesWith, mappedTo}
 use Rattle.calls.specs.Choices.{nextFrame, choices}
-use Rattle.calls.specs.Calls.{Outcome, Old, New, settle, pageTests, written, faultDone, fault}
-use Rattle.calls.specs.OnePass.{after, frameFor, answerOf, takerOf, answer, taker, withWord, allNumbers}
+use Rattle.calls.specs.Calls.{Outcome, Old, New, settle, pageTests, written, faultDone, atQuota, faultTests, fault}
+use Rattle.calls.specs.OnePass.{after, frameFor, atQuotaBy, answerOf, takerOf, answer, taker, withWord, allNumbers}
 use Rattle.calls.proofs.Settled.{ten-passed, ten-accepted}
 use Rattle.calls.proofs.Choice.{next-some, next-first, next-none}
-use Rattle.calls.proofs.Lanes.{frame-is}
+use Rattle.calls.proofs.Lanes.{all-held, frame-is}
 
 module _ (b : Board) (d p : ℕ) (t : List ℕ) (ok : passes (pageTests b (length t) d p) ≡ true) where
   abbrev s : State
@@ -55,7 +55,7 @@ module _ (b : Board) (d p : ℕ) (t : List ℕ) (ok : passes (pageTests b (lengt
   g = nextFrame (b .colours) (b .frames) (isFree t (b .colours) (activeSet b d)) (isHeld t d)
 
   abbrev faulted : List ℕ → Outcome
-  faulted fs = settle s (unless (test 12 (isEmpty fs && isEmpty gs) ∷ []) (faultDone s w fs gs))
+  faulted fs = settle s (unless (faultTests s d fs gs) (faultDone s w fs gs))
 
   mapped-is : mappedTo s d p ≡ keep holds (upto (length t))
   unfolding mappedTo framesWith
@@ -64,7 +64,7 @@ module _ (b : Board) (d p : ℕ) (t : List ℕ) (ok : passes (pageTests b (lengt
   fault-is : fault s d p ≡ faulted (keep holds (upto (length t)))
   unfolding fault
   fault-is =
-      ten-passed s d p (test 12 (isEmpty (mappedTo s d p) && isEmpty gs) ∷ []) (faultDone s w (mappedTo s d p) gs) ok
+      ten-passed s d p (faultTests s d (mappedTo s d p) gs) (faultDone s w (mappedTo s d p) gs) ok
       ∙ ap faulted mapped-is
 
   -- the fault's outcome, by what is kept
@@ -78,13 +78,17 @@ module _ (b : Board) (d p : ℕ) (t : List ℕ) (ok : passes (pageTests b (lengt
     given-old l = simp (lt-ltb 0 (k .mapped) l, le-ltb (b .frames) (b .frames) (omega arith))
 
     module _ (none : k .mapped ≤ 0) where
-      given-new : frameFor b d k < b .frames → given k ≡ record { reply = Answers (New (frameFor b d k)); moves = []; next = written s (frameFor b d k) w }
+      given-full : atQuotaBy b d k ≡ true → given k ≡ record { reply = Refuses 28 0; moves = []; next = s }
       unfolding answerOf takerOf withWord
-      given-new l = simp (le-ltb 0 (k .mapped) none, lt-ltb (frameFor b d k) (b .frames) l)
+      given-full full = simp (le-ltb 0 (k .mapped) none, full, le-ltb (b .frames) (b .frames) (omega arith))
 
-      given-none : b .frames ≤ frameFor b d k → given k ≡ record { reply = Refuses 12 0; moves = []; next = s }
+      given-new : atQuotaBy b d k ≡ false → frameFor b d k < b .frames → given k ≡ record { reply = Answers (New (frameFor b d k)); moves = []; next = written s (frameFor b d k) w }
       unfolding answerOf takerOf withWord
-      given-none l = simp (le-ltb 0 (k .mapped) none, le-ltb (frameFor b d k) (b .frames) l)
+      given-new below l = simp (le-ltb 0 (k .mapped) none, below, lt-ltb (frameFor b d k) (b .frames) l)
+
+      given-none : atQuotaBy b d k ≡ false → b .frames ≤ frameFor b d k → given k ≡ record { reply = Refuses 12 0; moves = []; next = s }
+      unfolding answerOf takerOf withWord
+      given-none below l = simp (le-ltb 0 (k .mapped) none, below, le-ltb (frameFor b d k) (b .frames) l)
 
   -- the fault, by the lowest frame with the word and the frame to take
   old-is : lowest holds (length t) < length t → fault s d p ≡ record { reply = Answers (Old (lowest holds (length t))); moves = []; next = s }
@@ -94,16 +98,20 @@ module _ (b : Board) (d p : ℕ) (t : List ℕ) (ok : passes (pageTests b (lengt
   unmapped : length t ≤ lowest holds (length t) → fault s d p ≡ faulted []
   unmapped h = fault-is ∙ ap faulted (kept-missed holds (length t) h)
 
-  new-is : length t ≤ lowest holds (length t) → g < b .frames → fault s d p ≡ record { reply = Answers (New g); moves = []; next = written s g w }
+  full-is : length t ≤ lowest holds (length t) → atQuota s d ≡ true → fault s d p ≡ record { reply = Refuses 28 0; moves = []; next = s }
   unfolding unless settle
-  new-is h l =
+  full-is h full = unmapped h ∙ rw full refl
+
+  new-is : length t ≤ lowest holds (length t) → atQuota s d ≡ false → g < b .frames → fault s d p ≡ record { reply = Answers (New g); moves = []; next = written s g w }
+  unfolding unless settle
+  new-is h below l =
       unmapped h
-      ∙ rw (next-some s d (activeSet b d) coloured l)
+      ∙ rw (below, next-some s d (activeSet b d) coloured l)
       (ap (λ (f : ℕ). record { reply = Answers (New f); moves = []; next = written s f w }) (next-first s d (activeSet b d) coloured l))
 
-  none-is : length t ≤ lowest holds (length t) → b .frames ≤ g → fault s d p ≡ record { reply = Refuses 12 0; moves = []; next = s }
+  none-is : length t ≤ lowest holds (length t) → atQuota s d ≡ false → b .frames ≤ g → fault s d p ≡ record { reply = Refuses 12 0; moves = []; next = s }
   unfolding unless settle
-  none-is h l = unmapped h ∙ rw (next-none s d (activeSet b d) coloured l) refl
+  none-is h below l = unmapped h ∙ rw (below, next-none s d (activeSet b d) coloured l) refl
 
   -- all words taken in
   abbrev pub end : Kept
@@ -133,6 +141,11 @@ module _ (b : Board) (d p : ℕ) (t : List ℕ) (ok : passes (pageTests b (lengt
   unfolding frameFor
   frame-for = rw (← (fine .bounds .long)) (frame-is (b .colours) d t (activeSet b d) (fine .passed .count))
 
+  -- and say whether it is at its quota
+  at-quota : atQuotaBy b d lanes ≡ atQuota s d
+  unfolding atQuotaBy
+  at-quota = ap (leb (quota b d)) (all-held b d t (fine .bounds .long))
+
   whole-pass : given end ≡ fault s d p
   whole-pass =
       let low : ℕ = lowest holds (length t) in
@@ -145,12 +158,15 @@ module _ (b : Board) (d p : ℕ) (t : List ℕ) (ok : passes (pageTests b (lengt
       ∙ sym (old-is h))
       (λ h.
       ap given (end-passed h)
-      ∙ below-or-not g (b .frames)
+      ∙ cases (atQuota s d)
+      (λ full. given-full lanes (omega arith) (at-quota ∙ full) ∙ sym (full-is h full))
+      (λ below.
+      below-or-not g (b .frames)
       (λ l.
-      given-new lanes (omega arith) (omega (arith, frame-for))
+      given-new lanes (omega arith) (at-quota ∙ below) (omega (arith, frame-for))
       ∙ ap (λ (f : ℕ). record { reply = Answers (New f); moves = []; next = written s f w }) frame-for
-      ∙ sym (new-is h l))
-      (λ l. given-none lanes (omega arith) (omega (arith, frame-for)) ∙ sym (none-is h l)))
+      ∙ sym (new-is h below l))
+      (λ l. given-none lanes (omega arith) (at-quota ∙ below) (omega (arith, frame-for)) ∙ sym (none-is h below l))))
 
   -- the first part xs, the words bs of the block under way, and the words ys after them
   pub one-pass :
@@ -165,11 +181,14 @@ module _ (b : Board) (d p : ℕ) (t : List ℕ) (ok : passes (pageTests b (lengt
   pub old-frame : 0 < end .mapped → fault s d p ≡ record { reply = Answers (Old (end .mapped - 1)); moves = []; next = s }
   old-frame l = sym whole-pass ∙ given-old end l
 
-  pub new-frame : end .mapped ≤ 0 → frameFor b d end < b .frames → fault s d p ≡ record { reply = Answers (New (frameFor b d end)); moves = []; next = written s (frameFor b d end) w }
-  new-frame h l = sym whole-pass ∙ given-new end h l
+  pub full-quota : end .mapped ≤ 0 → atQuotaBy b d end ≡ true → fault s d p ≡ record { reply = Refuses 28 0; moves = []; next = s }
+  full-quota h full = sym whole-pass ∙ given-full end h full
 
-  pub no-frame : end .mapped ≤ 0 → b .frames ≤ frameFor b d end → fault s d p ≡ record { reply = Refuses 12 0; moves = []; next = s }
-  no-frame h l = sym whole-pass ∙ given-none end h l
+  pub new-frame : end .mapped ≤ 0 → atQuotaBy b d end ≡ false → frameFor b d end < b .frames → fault s d p ≡ record { reply = Answers (New (frameFor b d end)); moves = []; next = written s (frameFor b d end) w }
+  new-frame h below l = sym whole-pass ∙ given-new end h below l
+
+  pub no-frame : end .mapped ≤ 0 → atQuotaBy b d end ≡ false → b .frames ≤ frameFor b d end → fault s d p ≡ record { reply = Refuses 12 0; moves = []; next = s }
+  no-frame h below l = sym whole-pass ∙ given-none end h below l
 
 -- the page's frame is one of those taken in
 pub end-below : (d p : ℕ) (xs : List ℕ) → after d p xs .mapped ≤ length xs
@@ -192,7 +211,7 @@ sixteen-bits : (n : ℕ) → isColourCount n ≡ true → 2 ^ n ≤ 65536
 unfolding isColourCount
 sixteen-bits n e = member-has (λ (m : ℕ). 2 ^ m ≤ 65536) n (1 ∷ 2 ∷ 4 ∷ 8 ∷ 16 ∷ []) (omega arith, (omega arith, (omega arith, (omega arith, (omega arith, tt))))) e
 
--- seven numbers, 32 lanes, and the words of a block of sixteen
+-- eight numbers, 32 lanes, and the words of a block of sixteen
 module _ (b : Board) (d p words : ℕ) (ok : passes (pageTests b words d p) ≡ true) where
   active-small : activeSet b d ≤ 65535
   active-small =
@@ -216,6 +235,7 @@ module _ (b : Board) (d p words : ℕ) (ok : passes (pageTests b words d p) ≡ 
           le-ltb 65535 (b .colours) (omega (arith, count-range (b .colours) (a .0 .passed .count))),
           le-ltb 65535 (b .frames) (omega (arith, a .0 .bounds)),
           le-ltb 65535 (activeSet b d) active-small,
+          le-ltb 65535 (quota b d) (omega (arith, quota-range (quota b d) (quotas-split b (a .0 .quotas) d (a .0 .caller)))),
           le-ltb 65535 (k .word) (omega (arith, r .same-word, a .0 .bounds, a .0 .caller, a .1)),
           le-ltb 65535 (k .first) (omega (arith, r .same-first, a .0 .bounds, a .0 .caller)),
           le-ltb 65535 (k .taken) (omega (arith, r .taken-below)),

@@ -1,5 +1,5 @@
--- What the reply of a call says of its tests: a refusal is theirs, and where it answers they all pass. In a call that names a page 10 comes right
--- after 2 to 8, and where these pass the call's own tests settle it; and what these leave of the board, the domain and the page.
+-- What the reply of a call says of its tests: where it answers they all pass. In a call that names a page 10 comes right
+-- after 2 to 8 and 26, and where these pass the call's own tests settle it; and what these leave of the board, the domain and the page.
 use Prim.Native.Nat.{ℕ, _≤_}
 use mathlib.Core.Bool.{true}
 use mathlib.Core.List.{List, [], _∷_, _++_, append-assoc}
@@ -7,7 +7,7 @@ use mathlib.Core.Path.{_≡_, refl, ap, _∙_}
 use lib.ListN.{length}
 use borrow.Author.Tests.{ltb-false}
 use Rattle.lists.proofs.Split.{cases}
-use Rattle.refusal.specs.Reply.{Answers, Refuses, Test, unless, passes}
+use Rattle.refusal.specs.Reply.{Answers, Test, unless, passes}
 use Rattle.refusal.proofs.Replies.{passed-first, passed-answers}
 use Rattle.refusal.proofs.Order.{unless-passed, passed-earlier, passed-later}
 use Rattle.board.specs.declared.Board.{Board}
@@ -17,12 +17,6 @@ use Rattle.calls.specs.Table.{State}
 use Rattle.calls.specs.Calls.{Answer, Done, settle, called, pageTest, pageTests}
 
 module _ (s : State) (done : Done) where
-  pub settled-refused : (ts : List Test) (n r : ℕ) → settle s (unless ts done) .reply ≡ Refuses n r → unless ts (tt {0}) ≡ Refuses n r
-  unfolding unless settle
-  settled-refused [] n r e = cc
-  settled-refused (t ∷ ts) n r e =
-      cases (t .fails) (λ f. rw f (cc (rw f at e))) (λ f. rw f (settled-refused ts n r (rw f at e)))
-
   pub settled-answers : (ts : List Test) (a : Answer) → settle s (unless ts done) .reply ≡ Answers a → (passes ts ≡ true) × (done .answer ≡ a)
   unfolding unless passes settle
   settled-answers [] a e = (refl, cc)
@@ -40,7 +34,7 @@ module _ (s : State) (d p : ℕ) (own : List Test) (done : Done) where
   pub ten-passed : passes tests ≡ true → called s d (pageTest p ∷ own) done ≡ settle s (unless own done)
   ten-passed e = ten-first ∙ ap (settle s) (unless-passed (tt {0}) done tests own (passed-answers tests (tt {0}) e))
 
--- what 2 to 8 and 10 give
+-- what 2 to 8, 26 and 10 give
 pub ten-accepted : (b : Board) (words d p : ℕ) → passes (pageTests b words d p) ≡ true → Accepted b words d × (p ≤ 4095)
 unfolding callReply
 ten-accepted b words d p e =

@@ -1,4 +1,4 @@
--- What the five calls mean, what they write to a move list, and what a fault answers by the numbers that it keeps.
+-- What the six calls mean, what they write to a move list, and what a fault answers by the numbers that it keeps.
 pub mod Table
 pub mod Choices
 pub mod Calls

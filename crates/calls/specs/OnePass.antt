@@ -1,9 +1,9 @@
--- A fault by what it keeps while it takes in the words of the table (`kept`): document 02, Nos. 2 and 7. The numbers kept after any first part of the
+-- A fault by what it keeps while it takes in the words of the table (`kept`): document 02, Nos. 2, 6 and 7. The numbers kept after any first part of the
 -- table, with the words still to come, give its answer and the frame that gets the word.
 use Prim.Native.Nat.{ℕ, _-_}
-use mathlib.Core.Bool.{Bool, _&&_}
+use mathlib.Core.Bool.{Bool, true, _&&_, _||_}
 use mathlib.Core.List.{List, _∷_}
-use lib.Dec.{eqb, ltb}
+use lib.Dec.{eqb, ltb, leb}
 use lib.ListN.{set}
 use Rattle.lists.specs.Choice.{if_then_else_}
 use Rattle.lists.specs.Range.{fewest}
@@ -11,7 +11,7 @@ use Rattle.refusal.specs.Reply.{Reply, Answers, Refuses}
 use Rattle.colours.specs.Cache.{colourOf}
 use Rattle.colours.specs.Sets.{has}
 use Rattle.board.specs.declared.Board.{Board}
-use Rattle.board.specs.Tests.{activeSet}
+use Rattle.board.specs.Tests.{activeSet, quota}
 use Rattle.kept.specs.declared.Kept.{Kept}
 use Rattle.kept.specs.Kept.{start, takeAll, numbers}
 use Rattle.kept.specs.Lanes.{sumLanes, leastLane}
@@ -44,16 +44,21 @@ after d p xs = takeAll (start (wordOf d p) (wordOf d 0)) xs
 unfoldable pub frameFor : Board → ℕ → Kept → ℕ
 frameFor b d k = frameBy (b .colours) (b .frames) (activeSet b d) (k .held) (k .free)
 
--- What is kept when no word is left gives the answer: the page's frame, else the frame to take, else refusal 12
+-- the frames that the lanes have counted are at or above the quota
+unfoldable pub atQuotaBy : Board → ℕ → Kept → Bool
+atQuotaBy b d k = leb (quota b d) (sumLanes (λ (i : ℕ). true) (k .held))
+
+-- What is kept when no word is left gives the answer: the page's frame, else refusal 28, else the frame to take, else refusal 12
 unfoldable pub answerOf : Board → ℕ → Kept → Reply Answer
 answerOf b d k =
     if ltb 0 (k .mapped) then Answers (Old (k .mapped - 1))
+    else if atQuotaBy b d k then Refuses 28 0
     else if ltb (frameFor b d k) (b .frames) then Answers (New (frameFor b d k))
     else Refuses 12 0
 
 -- and the frame that gets the word, or the number of frames where none does
 unfoldable pub takerOf : Board → ℕ → Kept → ℕ
-takerOf b d k = if ltb 0 (k .mapped) then b .frames else frameFor b d k
+takerOf b d k = if ltb 0 (k .mapped) || atQuotaBy b d k then b .frames else frameFor b d k
 
 -- what is kept gives them with the words that are still to come
 unfoldable pub answer : Board → ℕ → Kept → List ℕ → Reply Answer
@@ -68,4 +73,4 @@ withWord m f w t = if ltb f m then set t f w else t
 
 -- all numbers that are kept: what the call gives of the board, those of the record, and the words of the block under way
 unfoldable pub allNumbers : Board → ℕ → Kept → List ℕ → List ℕ
-allNumbers b d k block = b .colours ∷ b .frames ∷ activeSet b d ∷ numbers k block
+allNumbers b d k block = b .colours ∷ b .frames ∷ activeSet b d ∷ quota b d ∷ numbers k block

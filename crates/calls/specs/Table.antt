@@ -3,7 +3,7 @@ use Prim.Native.Nat.{ℕ, _+_, _-_, _*_}
 use mathlib.Core.Bool.{Bool, not, _&&_}
 use mathlib.Core.List.{List}
 use lib.Dec.{eqb, leb}
-use lib.ListN.{getD}
+use lib.ListN.{length, getD}
 use Rattle.lists.specs.Range.{upto, keep}
 use Rattle.colours.specs.Cache.{colourOf}
 use Rattle.colours.specs.Sets.{has}
@@ -64,6 +64,10 @@ mappedTo s d p = framesWith s (hasWord (s .table) (wordOf d p))
 -- the free frames with a colour in a set
 unfoldable pub frees : State → ℕ → List ℕ
 frees s c = framesWith s (isFree (s .table) (s .board .colours) c)
+
+-- how many frames the domain holds, whatever page and colour: all frames with one of its words
+unfoldable pub framesHeld : State → ℕ → ℕ
+framesHeld s d = length (framesWith s (isHeld (s .table) d))
 
 -- the domain's frames with a colour outside a set
 unfoldable pub strays : State → ℕ → ℕ → List ℕ

@@ -14,12 +14,12 @@ use Rattle.refusal.specs.Reply.{each, unless, passes}
 use Rattle.colours.specs.Sets.{isColourSet, has, consecutive}
 use Rattle.colours.specs.Cache.{isColourCount}
 use Rattle.colours.proofs.Theorems.{consecutive-colours}
-use Rattle.board.specs.Tests.{domainTests, boardTests, callTests}
-use Rattle.calls.specs.Table.{State, stateOf, framesWith, mappedTo, frees}
+use Rattle.board.specs.Tests.{badQuotas, domainTests, boardTests, stateTests, callTests}
+use Rattle.calls.specs.Table.{State, stateOf, framesWith, mappedTo, frees, framesHeld}
 use Rattle.calls.specs.Choices.{inColour, nextColour, nextFrame, taken, choices}
 use Rattle.calls.specs.Calls.{Move, settle, called, fault, release, pairs}
 use Rattle.calls.proofs.Choice.{First}
-use Rattle.calls.proofs.NewFrame.{new-first}
+use Rattle.calls.proofs.NewFrame.{new-frame}
 use Rattle.calls.proofs.Targets.{EachFirst, each-target-first}
 use Rattle.isolation.specs.DomainRule.{Call, outcome, run, Accepted, Empty}
 use Rattle.isolation.specs.EvenUse.{freedOrMoved, KeptAll, isActive, heldIn}
@@ -46,8 +46,8 @@ so-kept d s (c ∷ cs) e =
 
 kept-all : KeptAll 0 six-colours twelve-faults
 unfolding
-    from keep lowestFrom isFewest fewest unless each isColourSet has isColourCount domainTests boardTests callTests
-    framesWith mappedTo frees inColour nextColour nextFrame taken choices settle called fault release
+    from keep lowestFrom isFewest fewest unless each isColourSet has isColourCount badQuotas domainTests boardTests stateTests callTests
+    framesWith mappedTo frees framesHeld inColour nextColour nextFrame taken choices settle called fault release
 kept-all = so-kept 0 six-colours twelve-faults refl
 
 -- what the history leaves
@@ -56,8 +56,8 @@ left = stateOf (six-colours .board) (1 ∷ 2 ∷ 3 ∷ 4 ∷ 5 ∷ 6 ∷ 4097 �
 
 leaves : run six-colours twelve-faults ≡ left
 unfolding
-    from keep lowestFrom isFewest fewest unless each isColourSet has isColourCount domainTests boardTests callTests
-    framesWith mappedTo frees inColour nextColour nextFrame taken choices settle called fault release run
+    from keep lowestFrom isFewest fewest unless each isColourSet has isColourCount badQuotas domainTests boardTests stateTests callTests
+    framesWith mappedTo frees framesHeld inColour nextColour nextFrame taken choices settle called fault release run
 leaves = refl
 
 two-of-each : any (λ (x : ℕ). not (eqb (heldIn left 0 x) 2)) (upto 6) ≡ false
@@ -89,7 +89,7 @@ each-by-the-rule s d c (m ∷ ms) r = (by-the-rule s d c (m .target) (r .0), r .
 pub even-use-claims : EvenUseClaims
 even-use-claims =
     record {
-      fault-takes = λ s d p f e. by-the-rule s d _ f (new-first s d p f e);
+      fault-takes = λ s d p f e. by-the-rule s d _ f (new-frame s d p f e .0);
       recolouring-takes = λ s d c lent n e. each-by-the-rule s d c (pairs s d c) (each-target-first s d c lent n e);
       even-use = even-use;
       accepted = accepted;

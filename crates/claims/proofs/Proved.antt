@@ -27,6 +27,7 @@ use Rattle.claims.specs.Claims.{Claims}
 use Rattle.claims.proofs.Looks.{look-claims}
 use Rattle.claims.proofs.EvenUse.{even-use-claims}
 use Rattle.claims.proofs.PageOrder.{page-order-claims}
+use Rattle.claims.proofs.Quotas.{quota-claims}
 use Rattle.claims.proofs.Reload.{reloaded-counts}
 use Rattle.claims.proofs.Rounds as reached
 
@@ -126,6 +127,7 @@ interface-claims =
       words-back = lent.words-back;
       board-back = lent.board-back;
       one-word = lent.one-word;
+      quota-word = lent.quota-word;
       words-stand = lent.words-stand;
       first-bytes-tell = first-bytes-tell;
     }
@@ -139,6 +141,7 @@ claims =
       looks = look-claims;
       even-use = even-use-claims;
       page-order = page-order-claims;
+      quotas = quota-claims;
       one-pass = one-pass-claims;
       supply = supply-claims;
       times = time-claims;

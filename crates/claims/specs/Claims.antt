@@ -9,6 +9,7 @@ use Rattle.claims.specs.Histories.{HistoryClaims}
 use Rattle.claims.specs.Looks.{LookClaims}
 use Rattle.claims.specs.EvenUse.{EvenUseClaims}
 use Rattle.claims.specs.PageOrder.{PageOrderClaims}
+use Rattle.claims.specs.Quotas.{QuotaClaims}
 use Rattle.claims.specs.OnePass.{OnePassClaims}
 use Rattle.claims.specs.Times.{SupplyClaims, TimeClaims}
 use Rattle.claims.specs.Reload.{ReloadClaims}
@@ -28,6 +29,8 @@ pub record Claims : Type 0 where
   pub even-use : EvenUseClaims
   -- The order of the moves of a recolouring, and what its list holds: document 02, No. 4.
   pub page-order : PageOrderClaims
+  -- What holds of quotas: document 02, No. 6.
+  pub quotas : QuotaClaims
   -- A fault goes over the table once: document 02, No. 2.
   pub one-pass : OnePassClaims
   -- The supply of a periodic resource, and what a planner relies on.

@@ -8,7 +8,7 @@ use lib.ListN.{replicate}
 use Rattle.refusal.specs.Reply.{Answers}
 use Rattle.colours.specs.Cache.{colourOf}
 use Rattle.colours.specs.Sets.{has}
-use Rattle.board.specs.Tests.{activeSet}
+use Rattle.board.specs.Tests.{activeSet, firstQuotas}
 use Rattle.calls.specs.Table.{State, stateOf, word, inSet}
 use Rattle.calls.specs.Calls.{New, Moved, Move, fault, pairs, move, recolour}
 use Rattle.isolation.specs.DomainRule.{Call, Fault, Release, run, Accepted, Empty}
@@ -44,6 +44,7 @@ six-colours =
             domains = 2;
             grants = 0x3F ∷ 0xC0 ∷ 0 ∷ 0 ∷ 0 ∷ 0 ∷ 0 ∷ 0 ∷ [];
             active = 0x3F ∷ 0xC0 ∷ 0 ∷ 0 ∷ 0 ∷ 0 ∷ 0 ∷ 0 ∷ [];
+            quotas = firstQuotas;
           };
       table = replicate 32 0;
     }

@@ -1,20 +1,21 @@
--- What the C interface and the program claim beyond the contracts: the 19 words of a board and the board stand for each other, an accepted
--- recolouring changes one word of it, and the bytes that the program keeps of its input tell the text of the whole.
-use Prim.Native.Nat.{ℕ, _+_}
+-- What the C interface and the program claim beyond the contracts: the 27 words of a board and the board stand for each other, an accepted
+-- recolouring and an accepted quota call change one word of it, and the bytes that the program keeps of its input tell the text of the whole.
+use Prim.Native.Nat.{ℕ, _+_, _<_}
 use mathlib.Core.List.{List}
 use mathlib.Core.Path.{_≡_}
 use lib.ListN.{length, set, take}
 use Rattle.board.specs.declared.Board.{Board}
-use Rattle.calls.specs.Calls.{withActive, recolour}
+use Rattle.calls.specs.Calls.{withActive, withQuota, recolour}
 use Rattle.report.specs.Report.{textOf}
 use Rattle.marshal.specs.BoardWords.{boardOf, boardWords, wordsLeft, lent}
 
 pub record InterfaceClaims : Type 0 where
   -- A board that is written back where it was read changes nothing, and the words of a board stand for it.
-  pub words-back : (ws : List ℕ) → length ws ≡ 19 → boardWords (boardOf ws) ≡ ws
-  pub board-back : (b : Board) → length (b .grants) ≡ 8 → length (b .active) ≡ 8 → boardOf (boardWords b) ≡ b
-  -- A new active set is one new word.
-  pub one-word : (ws : List ℕ) (d c : ℕ) → length ws ≡ 19 → boardWords (withActive (boardOf ws) d c) ≡ set ws (11 + d) c
+  pub words-back : (ws : List ℕ) → length ws ≡ 27 → boardWords (boardOf ws) ≡ ws
+  pub board-back : (b : Board) → length (b .grants) ≡ 8 → length (b .active) ≡ 8 → length (b .quotas) ≡ 8 → boardOf (boardWords b) ≡ b
+  -- A new active set is one new word, and so is a new quota.
+  pub one-word : (ws : List ℕ) (d c : ℕ) → length ws ≡ 27 → d < 8 → boardWords (withActive (boardOf ws) d c) ≡ set ws (11 + d) c
+  pub quota-word : (ws : List ℕ) (d q : ℕ) → length ws ≡ 27 → boardWords (withQuota (boardOf ws) d q) ≡ set ws (19 + d) q
   -- The words that a recolouring leaves stand for the board that it leaves.
   pub words-stand :
       (ws table moves : List ℕ) (d c : ℕ)

@@ -1,7 +1,7 @@
 -- The domain rule is not vacuous. On document 01's example board (N 4, F 8, grants 0x3 and 0xC, an empty table of zeros), to domain 0: two
--- histories that do not look the same, because the map differs; two different ones that do; and two that differ in the colours alone.
+-- histories that do not look the same, because the map differs; two different ones that do; two that differ in the colours alone, and two in the quota.
 use mathlib.Core.List.{List, [], _∷_}
-use Rattle.isolation.specs.DomainRule.{Call, Look, Fault, Release, Recolour, run, own, LookTheSame, SameColours, SameMap, Accepted, Empty}
+use Rattle.isolation.specs.DomainRule.{Call, Look, Fault, Release, Recolour, SetQuota, run, own, LookTheSame, SameColours, SameMap, Accepted, Empty}
 use Rattle.examples.specs.Table.{recorder}
 
 -- the left side of the rule, and the two parts of its right side
@@ -21,16 +21,20 @@ faulted = Fault 0 9 ∷ []
 abbrev pub nothing : List Call
 nothing = []
 
--- page 9 gets frame 0, with one frame for domain 1; and by another way, with two frames for domain 1 and calls that are refused
+-- page 9 gets frame 0, with one frame for domain 1; and by another way, with two frames and a quota for domain 1 and calls that are refused
 abbrev pub straight : List Call
 straight = Fault 0 9 ∷ Fault 1 0 ∷ []
 
 abbrev pub roundabout : List Call
-roundabout = Look 0 9 ∷ Fault 1 3 ∷ Fault 0 9 ∷ Fault 0 1 ∷ Fault 2 7 ∷ Fault 1 0 ∷ Release 0 1 ∷ Release 0 1 ∷ []
+roundabout = Look 0 9 ∷ Fault 1 3 ∷ SetQuota 1 2 ∷ Fault 0 9 ∷ Fault 0 1 ∷ SetQuota 0 1 ∷ Fault 2 7 ∷ Fault 1 0 ∷ Release 0 1 ∷ Release 0 1 ∷ []
 
 -- colour 1 is given up before any page has a frame
 abbrev pub recoloured : List Call
 recoloured = Recolour 0 0x1 [] ∷ []
+
+-- domain 0 may hold three frames
+abbrev pub allowed : List Call
+allowed = SetQuota 0 3 ∷ []
 
 pub record LookClaims : Type 0 where
   -- There is a start: the rule speaks of something.
@@ -47,3 +51,7 @@ pub record LookClaims : Type 0 where
   pub colours-differ : ColoursAlike recoloured nothing → ⊥
   pub maps-agree : MapsAlike recoloured nothing
   pub told-apart-by-colours : LookAlike recoloured nothing → ⊥
+  -- The quota alone differs, and that is enough.
+  pub quotas-differ : ColoursAlike allowed nothing → ⊥
+  pub maps-still-agree : MapsAlike allowed nothing
+  pub told-apart-by-quotas : LookAlike allowed nothing → ⊥

@@ -1,7 +1,7 @@
--- A fault takes in each word of the table once and keeps few numbers between words: document 02, No. 2, with the choice of No. 7. `kept/specs/Kept.antt`
+-- A fault takes in each word of the table once and keeps few numbers between words: document 02, No. 2, with the choice of No. 7 and the quota of No. 6. `kept/specs/Kept.antt`
 -- says what is kept and what one word more makes of it, `calls/specs/OnePass.antt` what of it answers the fault. Kept are, in sixteen lanes of frames, how
 -- many the domain holds and the lowest that is free; the page's word and the domain's first; how many words were taken in, and the page's frame. The call
--- gives the board's N and F and the domain's active set. These are the numbers after the words xs of the blocks before; with them are kept the words bs, as
+-- gives the board's N and F and the domain's active set and quota. These are the numbers after the words xs of the blocks before; with them are kept the words bs, as
 -- they are, of the block of sixteen frames under way, so that xs and bs together are any first part of the table, and ys the words after it.
 use Prim.Native.Nat.{ℕ, _≤_}
 use mathlib.Core.Bool.{true, false}
@@ -17,7 +17,7 @@ use Rattle.calls.specs.Calls.{pageTests, fault}
 use Rattle.calls.specs.OnePass.{after, answer, taker, withWord, allNumbers}
 
 pub record OnePassClaims : Type 0 where
-  -- Where 2 to 10 pass, the numbers kept after any first part of the table, with the words after it, give the fault's answer and the frame that gets
+  -- Where 2 to 8, 26 and 10 pass, the numbers kept after any first part of the table, with the words after it, give the fault's answer and the frame that gets
   -- the word, if one does; nothing else changes.
   pub one-pass :
       (b : Board) (d p : ℕ) (t : List ℕ) → passes (pageTests b (length t) d p) ≡ true

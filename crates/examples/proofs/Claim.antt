@@ -4,10 +4,10 @@ use mathlib.Core.Path.{_≡_, refl}
 use lib.Count.{ones, onesIn}
 use Rattle.lists.specs.Range.{from, keep, lowestFrom, isFewest, fewest}
 use Rattle.refusal.specs.Reply.{each, unless}
-use Rattle.board.specs.Tests.{domainTests, boardTests, callTests}
-use Rattle.calls.specs.Table.{framesWith, mappedTo, frees, strays}
+use Rattle.board.specs.Tests.{badQuotas, domainTests, boardTests, stateTests, callTests}
+use Rattle.calls.specs.Table.{framesWith, mappedTo, frees, framesHeld, strays}
 use Rattle.calls.specs.Choices.{inColour, nextColour, nextFrame, taken, choices}
-use Rattle.calls.specs.Calls.{settle, called, look, fault, release, colours, pairUp, insert, inOrder, moveAll, recolour, triples}
+use Rattle.calls.specs.Calls.{settle, called, look, fault, release, colours, pairUp, insert, inOrder, moveAll, recolour, setQuota, triples}
 use Rattle.isolation.specs.DomainRule.{run}
 use Rattle.colours.specs.Sets.{isColourSet, has, coloursBelow, colourAt, placeOf}
 use Rattle.colours.specs.Cache.{isColourCount, cacheReply}
@@ -29,8 +29,8 @@ pub claim : allHold examples ≡ true
 unfolding
     ones onesIn from keep each unless lowestFrom isFewest fewest
     isColourSet has coloursBelow colourAt placeOf isColourCount cacheReply layoutPage layoutReply bleachIndex bleachReply dropBits equationOne
-    domainTests boardTests callTests framesWith mappedTo frees strays inColour nextColour nextFrame taken choices
-    settle called look fault release colours pairUp insert inOrder moveAll recolour triples run
+    badQuotas domainTests boardTests stateTests callTests framesWith mappedTo frees framesHeld strays inColour nextColour nextFrame taken choices
+    settle called look fault release colours pairUp insert inOrder moveAll recolour setQuota triples run
     supply cost heldFrom reloadedSet reloaded charge partStart partEnd rowsFrom partOf rowTests planTests
     firstFrom firstTime arrivals need taskNeed timeInPart taskTime vcpuCharge vcpuNeed vcpuTime
     covering roundsFrom rounds roundsInPart taskRounds vcpuRounds roundsBound taskBound vcpuBound

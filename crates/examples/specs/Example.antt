@@ -6,7 +6,7 @@ use lib.Dec.{eqb}
 use Rattle.refusal.specs.Reply.{Reply, Answers, Refuses}
 use Rattle.board.specs.declared.Board.{Board}
 use Rattle.calls.specs.Table.{State}
-use Rattle.calls.specs.Calls.{Answer, Mapped, Unmapped, Old, New, Freed, Active, Moved, Move, triples}
+use Rattle.calls.specs.Calls.{Answer, Mapped, Unmapped, Old, New, Freed, Active, Moved, Quota, Move, triples}
 use Rattle.isolation.specs.DomainRule.{Call, outcome, run, told}
 use Rattle.colours.specs.Cache.{cacheReply}
 use Rattle.colours.specs.Pages.{layoutReply, bleachReply, dropBits, equationOne}
@@ -66,15 +66,16 @@ sameList [] (y ∷ ys) = false
 sameList (x ∷ xs) [] = false
 sameList (x ∷ xs) (y ∷ ys) = eqb x y && sameList xs ys
 
--- a reply of the five calls as numbers: which answer it is, and its number
+-- a reply of the six calls as numbers: which answer it is, and its numbers
 unfoldable pub numbers : Reply Answer → List ℕ
 numbers (Answers (Mapped f)) = 1 ∷ f ∷ []
 numbers (Answers Unmapped) = 2 ∷ []
 numbers (Answers (Old f)) = 3 ∷ f ∷ []
 numbers (Answers (New f)) = 4 ∷ f ∷ []
 numbers (Answers (Freed f)) = 5 ∷ f ∷ []
-numbers (Answers (Active s)) = 6 ∷ s ∷ []
+numbers (Answers (Active s q)) = 6 ∷ s ∷ q ∷ []
 numbers (Answers (Moved n)) = 7 ∷ n ∷ []
+numbers (Answers (Quota q)) = 8 ∷ q ∷ []
 numbers (Refuses n r) = 0 ∷ n ∷ r ∷ []
 
 -- a time, or late, as numbers

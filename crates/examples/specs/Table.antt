@@ -2,11 +2,13 @@
 -- examples of document 004.
 use Prim.Native.Nat.{ℕ}
 use mathlib.Core.List.{List, [], _∷_, _++_}
+use lib.ListN.{replicate}
 use Rattle.refusal.specs.Reply.{Answers, Refuses}
 use Rattle.board.specs.declared.Board.{Board}
+use Rattle.board.specs.Tests.{firstQuotas}
 use Rattle.calls.specs.Table.{State}
-use Rattle.calls.specs.Calls.{Move, New, Moved}
-use Rattle.isolation.specs.DomainRule.{Call, Fault, Release, Recolour}
+use Rattle.calls.specs.Calls.{Move, Old, New, Active, Moved, Quota}
+use Rattle.isolation.specs.DomainRule.{Call, Look, Fault, Release, Colours, Recolour, SetQuota}
 use Rattle.times.specs.First.{At}
 use Rattle.examples.specs.Example.{Example, Cache, Layout, Bleach, Drop, Equation, Reply-after, Moves-of, List-after, Table-after, Supply, Vcpu-time, Task-time, Vcpu-rounds, Task-rounds, Reloads, Pairwise-time, Admission}
 
@@ -17,7 +19,7 @@ sets = 0x3 ∷ 0xC ∷ 0 ∷ 0 ∷ 0 ∷ 0 ∷ 0 ∷ 0 ∷ []
 abbrev pub recorder : State
 recorder =
     record {
-      board = record { colours = 4; frames = 8; domains = 2; grants = sets; active = sets };
+      board = record { colours = 4; frames = 8; domains = 2; grants = sets; active = sets; quotas = firstQuotas };
       table = 0 ∷ 0 ∷ 0 ∷ 0 ∷ 0 ∷ 0 ∷ 0 ∷ 0 ∷ [];
     }
 
@@ -26,6 +28,28 @@ three-faults = Fault 0 9 ∷ Fault 1 0 ∷ Fault 0 1 ∷ []
 
 abbrev pub then-recoloured : List Call
 then-recoloured = Fault 0 9 ∷ Fault 1 0 ∷ Fault 0 1 ∷ Recolour 0 0x1 (0 ∷ 0 ∷ 0 ∷ []) ∷ []
+
+-- domain 1 fills its two colours; and with a quota of 2 two of its pages get frames, and then it gives colour 3 up
+abbrev pub filled : List Call
+filled = Fault 1 0 ∷ Fault 1 1 ∷ Fault 1 2 ∷ Fault 1 3 ∷ []
+
+abbrev pub allotted : List Call
+allotted = SetQuota 1 2 ∷ Fault 1 0 ∷ Fault 1 1 ∷ []
+
+abbrev pub to-one-colour : Call
+to-one-colour = Recolour 1 0x4 (0 ∷ 0 ∷ 0 ∷ 0 ∷ 0 ∷ 0 ∷ [])
+
+abbrev pub then-narrowed : List Call
+then-narrowed = allotted ++ (to-one-colour ∷ [])
+
+-- the same board with other quotas of domains 0, 1 and 2, the last beyond the count; and a table on which domain 0 holds five frames, two of them for one
+-- page and two outside its grant
+abbrev pub with-quotas : ℕ → ℕ → ℕ → State
+with-quotas p q r =
+    record {
+      board = record { colours = 4; frames = 8; domains = 2; grants = sets; active = sets; quotas = p ∷ q ∷ r ∷ replicate 5 4096 };
+      table = 1 ∷ 1 ∷ 2 ∷ 0 ∷ 0 ∷ 65535 ∷ 4096 ∷ 4 ∷ [];
+    }
 
 -- N 4, F 12 and one domain with grant 0xF: its active set, and the table
 abbrev pub alone : ℕ → List ℕ → State
@@ -38,6 +62,7 @@ alone set t =
             domains = 1;
             grants = 0xF ∷ 0 ∷ 0 ∷ 0 ∷ 0 ∷ 0 ∷ 0 ∷ 0 ∷ [];
             active = set ∷ 0 ∷ 0 ∷ 0 ∷ 0 ∷ 0 ∷ 0 ∷ 0 ∷ [];
+            quotas = firstQuotas;
           };
       table = t;
     }
@@ -75,7 +100,11 @@ grant = 0xFF ∷ 0 ∷ 0 ∷ 0 ∷ 0 ∷ 0 ∷ 0 ∷ 0 ∷ []
 
 -- the board that document 01 gives the program `admit`: N 16, F 64 and one domain with 255
 abbrev pub planned : Board
-planned = record { colours = 16; frames = 64; domains = 1; grants = grant; active = grant }
+planned = record { colours = 16; frames = 64; domains = 1; grants = grant; active = grant; quotas = firstQuotas }
+
+-- the same with a quota of 0, which admission does not test
+abbrev pub planned-without-quota : Board
+planned-without-quota = record { colours = 16; frames = 64; domains = 1; grants = grant; active = grant; quotas = replicate 8 0 }
 
 -- one VCPU on core 0 in domain 0: period and budget
 abbrev pub vcpu : ℕ → ℕ → List ℕ
@@ -157,6 +186,36 @@ examples =
     -- where it is refused no word of the list changes
     ∷ Reply-after page-twice [] (Recolour 0 0x4 (20 ∷ 21 ∷ 22 ∷ [])) (Refuses 12 0)
     ∷ List-after page-twice [] (Recolour 0 0x4 (20 ∷ 21 ∷ 22 ∷ [])) (20 ∷ 21 ∷ 22 ∷ [])
+    -- document 02, No. 6: a guest that filled its colours cannot recolour to one of them; with a quota of 2 a third page is refused, one that is mapped is
+    -- not, and the recolouring goes on, whatever the quota. Then the quota is reached and no frame is free, of which 28 comes first
+    ∷ Reply-after recorder filled to-one-colour (Refuses 12 0)
+    ∷ Reply-after recorder [] (SetQuota 1 2) (Answers (Quota 2))
+    ∷ Reply-after recorder allotted (Fault 1 2) (Refuses 28 0)
+    ∷ Reply-after recorder allotted (Fault 1 1) (Answers (Old 3))
+    ∷ Reply-after recorder allotted (Colours 1) (Answers (Active 0xC 2))
+    ∷ Reply-after recorder allotted (Colours 0) (Answers (Active 0x3 4096))
+    ∷ Reply-after recorder allotted to-one-colour (Answers (Moved 1))
+    ∷ Table-after recorder then-narrowed (0 ∷ 0 ∷ 4097 ∷ 0 ∷ 0 ∷ 0 ∷ 4098 ∷ 0 ∷ [])
+    ∷ Reply-after recorder then-narrowed (Fault 1 2) (Refuses 28 0)
+    ∷ Reply-after recorder (then-narrowed ++ (SetQuota 1 3 ∷ [])) (Fault 1 2) (Refuses 12 0)
+    -- a quota below the frames held is refused, that of the frames held is not; it may exceed F, but neither 4,096 nor be 0; it is asked for by a domain
+    ∷ Reply-after recorder allotted (SetQuota 1 1) (Refuses 27 0)
+    ∷ Reply-after recorder allotted (SetQuota 1 2) (Answers (Quota 2))
+    ∷ Reply-after recorder [] (SetQuota 0 4096) (Answers (Quota 4096))
+    ∷ Reply-after recorder [] (SetQuota 0 4097) (Refuses 27 0)
+    ∷ Reply-after recorder [] (SetQuota 0 0) (Refuses 27 0)
+    ∷ Reply-after recorder [] (SetQuota 2 1) (Refuses 8 0)
+    -- held are all frames with a word of the domain: five here, of which one is a page's second and two lie outside the grant
+    ∷ Reply-after (with-quotas 5 1 1) [] (SetQuota 0 4) (Refuses 27 0)
+    ∷ Reply-after (with-quotas 5 1 1) [] (SetQuota 0 5) (Answers (Quota 5))
+    ∷ Reply-after (with-quotas 5 1 1) [] (Fault 0 2) (Refuses 28 0)
+    ∷ Reply-after (with-quotas 6 1 1) [] (Fault 0 2) (Answers (New 4))
+    ∷ Reply-after (with-quotas 1 1 1) [] (Fault 0 1) (Answers (Old 2))
+    -- a quota of 0 or above 4,096 stops every call, before 8, but for one beyond the count; admission does not ask
+    ∷ Reply-after (with-quotas 4096 0 1) [] (Look 0 0) (Refuses 26 0)
+    ∷ Reply-after (with-quotas 4097 1 1) [] (Look 7 0) (Refuses 26 0)
+    ∷ Reply-after (with-quotas 4096 1 0) [] (Colours 1) (Answers (Active 0xC 1))
+    ∷ Admission planned-without-quota 100 whole-core (two-tasks 3000) 3 (Answers tt)
     -- document 02, No. 9, in document 01's examples by the millisecond: the round that ends the search counts, at the time or past the deadline, and with
     -- cost 1 under full supply it is the only one
     ∷ Vcpu-rounds (vcpu 10 10) 0 2 2

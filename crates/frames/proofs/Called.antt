@@ -1,4 +1,4 @@
--- From the reply of 2 to 8, or of 2 to 8 and 10, to the outcome of a call: a refusal settles it, and otherwise the call's own tests do.
+-- From the reply of 2 to 8 and 26, or of these and 10, to the outcome of a call: a refusal settles it, and otherwise the call's own tests do.
 use Prim.Native.Nat.{ℕ, _≤_}
 use mathlib.Core.Bool.{true}
 use mathlib.Core.List.{List, [], _∷_, _++_}
@@ -26,7 +26,7 @@ answered s a = record { reply = Answers a; moves = []; next = s }
 pub told-by : (o p : Outcome) → o ≡ p → (p .reply ≡ o .reply) × (p .next .table ≡ o .next .table)
 told-by o p e = (sym (ap (λ (q : Outcome). q .reply) e), sym (ap (λ (q : Outcome). q .next .table) e))
 
--- 2 to 8 and 10 pass where they do not refuse
+-- 2 to 8, 26 and 10 pass where they do not refuse
 pub page-passes : (b : Board) (words d p : ℕ) → pageReply b words d p ≡ Answers tt → passes (pageTests b words d p) ≡ true
 unfolding pageReply
 page-passes b words d p e = answers-passed (pageTests b words d p) (tt {0}) tt e .0
@@ -54,7 +54,7 @@ module _ (s : State) (d : ℕ) (own : List Test) (done : Done) where
         pageReply (s .board) (length (s .table)) d p ≡ Answers tt → called s d (pageTest p ∷ own) done ≡ settle s (unless own done)
     page-passed e = ten-passed s d p own done (page-passes (s .board) (length (s .table)) d p e)
 
--- 10 comes after 2 to 8
+-- 10 comes after 2 to 8 and 26
 module _ (b : Board) (words d p : ℕ) where
   pub ten-refused : (n r : ℕ) → callReply b words d ≡ Refuses n r → pageReply b words d p ≡ Refuses n r
   unfolding callReply pageReply
@@ -64,6 +64,6 @@ module _ (b : Board) (words d p : ℕ) where
   unfolding callReply pageReply
   ten-left = unless-passed (tt {0}) (tt {0}) (callTests b words d) (pageTest p ∷ [])
 
-  -- what 2 to 8 and 10 give
+  -- what 2 to 8, 26 and 10 give
   pub page-accepted : pageReply b words d p ≡ Answers tt → Accepted b words d × (p ≤ 4095)
   page-accepted e = ten-accepted b words d p (page-passes b words d p e)

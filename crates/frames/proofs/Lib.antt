@@ -7,6 +7,7 @@ pub mod Filled
 pub mod Keys
 pub mod ByLanes
 pub mod Called
+pub mod Asked
 pub mod Pages
 pub mod Step
 pub mod Limits
@@ -15,3 +16,4 @@ pub mod PageCounts
 pub mod Turn
 pub mod Passes
 pub mod Recolours
+pub mod Walk

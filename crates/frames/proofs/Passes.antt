@@ -1,4 +1,4 @@
--- What the two passes give on the table of a call: the words beyond 4,096 and the bound on a first word play no part there. With it the keys that a
+-- What the passes give on the table of a call: the words beyond 4,096 and the bound on a first word play no part there. With it the keys that a
 -- recolouring starts with, and that those of a fault are words.
 use Prim.Native.Nat.{ℕ, _<_, _≤_}
 use native.Mathlib.Omega.{arith}
@@ -14,10 +14,11 @@ use Rattle.lists.proofs.Split.{cases, below-or-not}
 use Rattle.lists.proofs.Filter.{same-kept}
 use Rattle.colours.specs.Cache.{isColourCount}
 use Rattle.colours.specs.Sets.{has}
+use Rattle.board.specs.declared.Board.{Board}
 use Rattle.kept.specs.Kept.{isOwn, zeros, countAll, noteAll, start, takeAll}
 use Rattle.kept.specs.Lanes.{sumLanes}
-use Rattle.pass.specs.Steps.{read, atMost, surveyOf}
-use Rattle.calls.specs.Table.{word, wordOf, inSet, isFree, isStray}
+use Rattle.pass.specs.Steps.{read, atMost, ownIn, surveyOf}
+use Rattle.calls.specs.Table.{stateOf, word, wordOf, inSet, isFree, isHeld, isStray, framesWith, framesHeld}
 use Rattle.calls.specs.OnePass.{after}
 use Rattle.calls.proofs.Lanes.{own-words, sum-is, held-is, free-is}
 use Rattle.frames.specs.Steps.{sideOf, keyOf, FreesIn, KeysFit, KeysFitBy, KeysBy, Ready}
@@ -35,6 +36,13 @@ module _ (t : List ℕ) (d : ℕ) (most : length t ≤ 4096) (low : d < 8) where
   pub kept-is : (p w first : ℕ) → w ≡ wordOf d p → first ≡ wordOf d 0 → takeAll (start w (atMost 61440 first)) (read t) ≡ after d p t
   unfolding after
   kept-is p w first e f = rw (e, f, first-is, all-read) refl
+
+  -- the count for a quota
+  pub held-counted : (b : Board) → length t ≡ b .frames → (first : ℕ) → first ≡ wordOf d 0 → ownIn (atMost 61440 first) (read t) ≡ framesHeld (stateOf b t) d
+  unfolding ownIn framesHeld framesWith
+  held-counted b long first f =
+      rw (f, first-is, all-read)
+      (ap length (same-kept _ _ (length t) (λ g l. own-words d (word t g))) ∙ ap (λ (n : ℕ). length (keep (isHeld t d) (upto n))) long)
 
   -- the survey
   pub surveyed-is : (first : ℕ) → first ≡ wordOf d 0 → surveyOf (atMost 61440 first) (read t) ≡ surveyOf (wordOf d 0) t

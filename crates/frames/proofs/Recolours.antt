@@ -55,7 +55,7 @@ module _ (b : Board) (t : List ℕ) (d c : ℕ) where
   abbrev later : ℕ → List Test
   later room = test 12 (ltb (length (choices s d c)) (length (strays s d c))) ∷ test 13 (ltb room (3 * length (strays s d c))) ∷ []
 
-  -- 9 stands with 2 to 8
+  -- 9 stands with 2 to 8 and 26
   in-two : (room : ℕ) → recolourReply s d c room ≡ unless ((callTests b (length t) d ++ (nine ∷ [])) ++ later room) (Moved (length (strays s d c)))
   unfolding recolourReply
   in-two room = ap (λ (ts : List Test). unless ts (Moved (length (strays s d c)))) (sym (append-assoc (callTests b (length t) d) (nine ∷ []) (later room)))
@@ -109,7 +109,7 @@ module _ (b : Board) (t : List ℕ) (d c : ℕ) where
         rw is (refl, (refl, (refl, refl)))
 
     module _ (count : ℕ) (e : recolourReply s d c (length m) ≡ Answers (Moved count)) where
-      -- 2 to 8, 9, 12 and 13 pass, and so many frames are to be moved
+      -- 2 to 8, 26, 9, 12 and 13 pass, and so many frames are to be moved
       pub call-accepted : Accepted b (length t) d
       unfolding recolourReply callReply
       call-accepted =

@@ -1,12 +1,14 @@
--- The answers of the five calls in document 01's numbers: for each case what the paper calls it, or the refusal's number and row.
+-- The answers of the six calls in document 01's numbers: for each case what the paper calls it, or the refusal's number and row.
 use Rattle.refusal.specs.Reply.{Reply, Answers, Refuses}
-use Rattle.calls.specs.Calls.{Answer, Mapped, Unmapped, Old, New, Freed, Active, Moved}
+use Rattle.calls.specs.Calls.{Answer, Mapped, Unmapped, Old, New, Freed, Active, Moved, Quota}
 use Rattle.frames.specs.declared.mapping.Looked.{Looked}
 use Rattle.frames.specs.declared.mapping.Looked.the-variants.{Mapped as LookedMapped, Unmapped as LookedUnmapped, Refused as LookedRefused}
 use Rattle.frames.specs.declared.mapping.Faulted.{Faulted}
 use Rattle.frames.specs.declared.mapping.Faulted.the-variants.{Old as FaultedOld, New as FaultedNew, Refused as FaultedRefused}
 use Rattle.frames.specs.declared.mapping.Released.{Released}
 use Rattle.frames.specs.declared.mapping.Released.the-variants.{Freed as ReleasedFreed, Refused as ReleasedRefused}
+use Rattle.frames.specs.declared.quotas.QuotaSet.{QuotaSet}
+use Rattle.frames.specs.declared.quotas.QuotaSet.the-variants.{Quota as QuotaIs, Refused as QuotaRefused}
 use Rattle.frames.specs.declared.recolouring.ActiveColours.{ActiveColours}
 use Rattle.frames.specs.declared.recolouring.ActiveColours.the-variants.{Set as ActiveSet, Refused as ActiveRefused}
 use Rattle.frames.specs.declared.recolouring.Moved.{Moved as MovedAnswer}
@@ -27,8 +29,12 @@ paperReleased (ReleasedFreed f) = Answers (Freed f)
 paperReleased (ReleasedRefused r) = Refuses (r .number) (r .row)
 
 abbrev pub paperActive : ActiveColours → Reply Answer
-paperActive (ActiveSet s) = Answers (Active s)
+paperActive (ActiveSet s q) = Answers (Active s q)
 paperActive (ActiveRefused r) = Refuses (r .number) (r .row)
+
+abbrev pub paperQuota : QuotaSet → Reply Answer
+paperQuota (QuotaIs q) = Answers (Quota q)
+paperQuota (QuotaRefused r) = Refuses (r .number) (r .row)
 
 abbrev pub paperMoved : MovedAnswer → Reply Answer
 paperMoved (MovedCount n) = Answers (Moved n)

@@ -1,10 +1,11 @@
-// The five calls on the frame table: document 01, "Board and frame table" and refusals 2 to 14. What
-// they mean is said in `calls`; this crate runs them on a lent table and a board by value. No
-// function here requires anything of its caller.
+// The six calls on the frame table: document 01, "Board and frame table" and refusals 2 to 14, and 02, No. 6. What
+// they mean is said in `calls`; this crate runs them on a lent table and a board by value, which set_quota
+// alone is lent. No public function here requires anything of its caller.
 mod choosing;
 mod mapping;
 mod moving;
 mod ordering;
+mod quotas;
 mod recolouring;
 mod scan;
 
@@ -14,6 +15,10 @@ pub use mapping::Released;
 pub use mapping::fault;
 pub use mapping::look;
 pub use mapping::release;
+pub use quotas::Asked;
+pub use quotas::QuotaSet;
+pub use quotas::ask_quota;
+pub use quotas::set_quota;
 pub use recolouring::ActiveColours;
 pub use recolouring::Moved;
 pub use recolouring::Recoloured;

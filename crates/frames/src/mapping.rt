@@ -1,5 +1,5 @@
-// Look, fault and release: document 01, the frame of a domain's page, with refusals 2 to 8, 10, 12
-// and 14; of a fault also document 02, Nos. 2 and 7.
+// Look, fault and release: document 01, the frame of a domain's page, with refusals 2 to 8, 26, 10, 12
+// and 14; of a fault also document 02, Nos. 2, 6 and 7, with 28.
 ghost use mathlib.Core.Path.{_≡_};
 ghost use Rattle.board.specs.Paper.{paperChecked};
 ghost use Rattle.calls.specs.Table.{stateOf};
@@ -8,11 +8,13 @@ ghost use Rattle.frames.specs.Paper.{paperLooked, paperFaulted, paperRel
 ghost use Rattle.frames.specs.Steps.{pageReply};
 use crate::choosing::choose;
 use crate::scan::next_word;
+use crate::scan::sum_all;
 use crate::scan::word_for;
 use board::Board;
 use board::Checked;
 use board::active_set;
 use board::check_call;
+use board::quota_of;
 use pass::go_over;
 use refusal::Refusal;
 
@@ -35,7 +37,7 @@ pub enum Released {
     Refused(Refusal),
 }
 
-// Refusals 2 to 8 and 10.
+// Refusals 2 to 8, 26 and 10.
 fn check_page(board: Board, words: usize, domain: u32, page: u32) -> Checked
     ensures { λ r. ⌜ paperChecked r ≡ pageReply board words domain page ⌝ }
 {
@@ -69,7 +71,7 @@ pub fn look(board: Board, table: &[u16], domain: u32, page: u32) -> Looked
 }
 
 // The frame of the page, old or new: the one pass over the table, and where the page has no frame the word to
-// the one that the domain takes next.
+// the one that the domain takes next, unless it is at its quota.
 pub fn fault(board: Board, table: &mut [u16], domain: u32, page: u32) -> Faulted
     ensures { λ r. ⌜ paperFaulted r ≡ (faultCall (stateOf board (now (table .entry))) domain page) .reply ⌝ }
     ensures { λ r. ⌜ now (table .exit) ≡ (faultCall (stateOf board (now (table .entry))) domain page) .next .table ⌝ }
@@ -84,14 +86,12 @@ pub fn fault(board: Board, table: &mut [u16], domain: u32, page: u32) -> Faulted
         return Faulted::Old((kept.mapped - 1) as u32);
     }
     let held = kept.held;
+    let colours = board.colours as usize;
+    if quota_of(board, domain) as usize <= sum_all(held, colours) {
+        return Faulted::Refused(Refusal { number: 28, row: 0 });
+    }
     let free = kept.free;
-    let frame = choose(
-        held,
-        free,
-        board.colours as usize,
-        active_set(board, domain),
-        table.len(),
-    );
+    let frame = choose(held, free, colours, active_set(board, domain), table.len());
     if frame < table.len() {
         table[frame] = word;
         return Faulted::New(frame as u32);
@@ -99,18 +99,19 @@ pub fn fault(board: Board, table: &mut [u16], domain: u32, page: u32) -> Faulted
     Faulted::Refused(Refusal { number: 12, row: 0 })
 }
 
-// The frame that look finds becomes free.
+// The frame that look finds becomes free. It is found here and not by calling look, so that each is compiled
+// into the one function that calls it, and a board is copied once less.
 pub fn release(board: Board, table: &mut [u16], domain: u32, page: u32) -> Released
     ensures { λ r. ⌜ paperReleased r ≡ (releaseCall (stateOf board (now (table .entry))) domain page) .reply ⌝ }
     ensures { λ r. ⌜ now (table .exit) ≡ (releaseCall (stateOf board (now (table .entry))) domain page) .next .table ⌝ }
 {
-    match look(board, table, domain, page) {
-        Looked::Refused(refusal) => Released::Refused(refusal),
-        Looked::Unmapped => Released::Refused(Refusal { number: 14, row: 0 }),
-        Looked::Mapped(frame) => {
-            let f = frame as usize;
-            table[f] = 0;
-            Released::Freed(frame)
-        }
+    if let Checked::Refused(refusal) = check_page(board, table.len(), domain, page) {
+        return Released::Refused(refusal);
     }
+    let frame = next_word(table, 0, word_for(domain, page));
+    if frame < table.len() {
+        table[frame] = 0;
+        return Released::Freed(frame as u32);
+    }
+    Released::Refused(Refusal { number: 14, row: 0 })
 }

@@ -1,5 +1,5 @@
 // Colours and recolour: document 01, the active set of a domain and the change of it, with refusals
-// 2 to 9, 12 and 13, and 02, Nos. 4 and 7. Only recolour changes the board, and hands it back beside its answer.
+// 2 to 9, 26, 12 and 13, and 02, Nos. 4, 6 and 7. Recolour changes the board, and hands it back beside its answer.
 ghost use mathlib.Core.Path.{_≡_};
 ghost use mathlib.Core.Bool.{true, false};
 ghost use Prim.Native.Nat.{ℕ, _<_, _≤_};
@@ -18,11 +18,12 @@ use board::Checked;
 use board::active_set;
 use board::check_call;
 use board::grant_of;
+use board::quota_of;
 use pass::survey;
 use refusal::Refusal;
 
 pub enum ActiveColours {
-    Set(u32),
+    Set(u32, u32),
     Refused(Refusal),
 }
 
@@ -46,17 +47,19 @@ fn with_active(board: Board, domain: u32, set: u32) -> Board
     next
 }
 
-// The domain's active set.
+// The domain's active set and its quota.
 pub fn colours(board: Board, table: &[u16], domain: u32) -> ActiveColours
     ensures { λ r. ⌜ paperActive r ≡ (coloursCall (stateOf board (now (table .entry))) domain) .reply ⌝ }
 {
     match check_call(board, table.len(), domain) {
         Checked::Refused(refusal) => ActiveColours::Refused(refusal),
-        Checked::Accepted => ActiveColours::Set(active_set(board, domain)),
+        Checked::Accepted => {
+            ActiveColours::Set(active_set(board, domain), quota_of(board, domain))
+        },
     }
 }
 
-// Refusals 2 to 9.
+// Refusals 2 to 8, 26 and 9.
 fn check_set(board: Board, words: usize, domain: u32, set: u32) -> Checked
     ensures { λ r. ⌜ paperChecked r ≡ setReply board words domain set ⌝ }
 {

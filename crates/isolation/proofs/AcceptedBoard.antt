@@ -1,5 +1,5 @@
 -- The part of a state that calls change, and what an accepted board has: its table's length and its domain count, grants that share no
--- colour, active sets inside their grants. And which other active sets leave it accepted.
+-- colour, active sets inside their grants. And which other active sets and quotas leave it accepted.
 use Prim.Native.Nat.{ℕ, _<_, _≤_}
 use mathlib.Core.Bool.{true, false}
 use mathlib.Core.List.{List}
@@ -20,31 +20,45 @@ use Rattle.board.proofs.Passed.{Passed, split, join, sized}
 use Rattle.calls.specs.Table.{State, stateOf}
 use Rattle.isolation.specs.DomainRule.{Accepted}
 
--- What calls change of a state: the active sets of its board, and its table. The rest of the board is as at the start, after any history.
--- Whatever else a call comes to change is one field more here, and in what a domain sees (Agree).
+-- What calls change of a state: the active sets and the quotas of its board, and its table. The rest of the board is as at the start, after any
+-- history. Whatever else a call comes to change is one field more here, and in what a domain sees (Agree).
 pub record Live : Type 0 where
   pub active : List ℕ
+  pub quotas : List ℕ
   pub table : List ℕ
 
 abbrev pub live : State → Live
-live s = record { active = s .board .active; table = s .table }
+live s = record { active = s .board .active; quotas = s .board .quotas; table = s .table }
 
 -- the state that has it, on board b
 abbrev pub at : Board → Live → State
 at b x =
-    stateOf (record { colours = b .colours; frames = b .frames; domains = b .domains; grants = b .grants; active = x .active })
+    stateOf (record {
+      colours = b .colours;
+      frames = b .frames;
+      domains = b .domains;
+      grants = b .grants;
+      active = x .active;
+      quotas = x .quotas;
+    })
     (x .table)
 
--- with another table, and with another active set of domain d
+-- with another table, with another active set of domain d, and with another quota
 abbrev pub withTable : Live → List ℕ → Live
-withTable x t = record { active = x .active; table = t }
+withTable x t = record { active = x .active; quotas = x .quotas; table = t }
 
 abbrev pub withSet : Live → ℕ → ℕ → Live
-withSet x d c = record { active = set (x .active) d c; table = x .table }
+withSet x d c = record { active = set (x .active) d c; quotas = x .quotas; table = x .table }
 
--- the active set of domain d
+abbrev pub withLimit : Live → ℕ → ℕ → Live
+withLimit x d q = record { active = x .active; quotas = set (x .quotas) d q; table = x .table }
+
+-- the active set of domain d, and its quota
 abbrev pub setOf : Live → ℕ → ℕ
 setOf x d = getD (x .active) d 0
+
+abbrev pub limitOf : Live → ℕ → ℕ
+limitOf x d = getD (x .quotas) d 0
 
 -- a set lies inside the grant of domain d
 abbrev pub Inside : Board → ℕ → ℕ → Type 0

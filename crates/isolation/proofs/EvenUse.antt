@@ -18,10 +18,10 @@ use Rattle.board.specs.declared.Board.{Board}
 use Rattle.board.specs.Tests.{activeSet}
 use Rattle.calls.specs.Table.{State, word, wordOf, isOf, hasWord, isHeld, mappedTo}
 use Rattle.calls.specs.Choices.{choices}
-use Rattle.calls.specs.Calls.{Done, settle, called, written, look, faultDone, fault, release, colours, recolour}
+use Rattle.calls.specs.Calls.{Done, settle, called, written, look, faultDone, fault, release, colours, recolour, setQuota}
 use Rattle.calls.proofs.InColour.{none-counts, same-count, no-fewer-count, one-fewer-count}
 use Rattle.calls.proofs.Choice.{First, first}
-use Rattle.isolation.specs.DomainRule.{Call, Look, Fault, Release, Colours, Recolour, names, outcome, run, Accepted, Empty}
+use Rattle.isolation.specs.DomainRule.{Call, Look, Fault, Release, Colours, Recolour, SetQuota, names, outcome, run, Accepted, Empty}
 use Rattle.isolation.specs.EvenUse.{freedOrMoved, KeptAll, isActive, freeIn, heldIn, Even, EvenUse}
 use Rattle.isolation.proofs.AcceptedBoard.{Live, at, setOf}
 use Rattle.isolation.proofs.TestLists.{called-one, small-page}
@@ -92,7 +92,7 @@ refused-even s d (t ∷ ts) done gives undone even =
 -- the domain's own calls
 module _ {b : Board} {t₀ : List ℕ} {x : Live} (inv : Inv b t₀ x) (d : ℕ) (even : Even d (at b x)) where
   under : (own : List Test) (done : Done) → (passes own ≡ true → Even d (done .next)) → Even d (called (at b x) d own done .next)
-  under own done f = called-one (Even d) (at b x) even (inv .accepted) d own done (λ below. f)
+  under own done f = called-one (Even d) (at b x) even (inv .accepted) d own done (λ awake below. f)
 
   look-even : (p : ℕ) → Even d (look (at b x) d p .next)
   unfolding look
@@ -115,7 +115,7 @@ module _ {b : Board} {t₀ : List ℕ} {x : Live} (inv : Inv b t₀ x) (d : ℕ)
       under _ _ (λ ok.
       let r = small-page p _ ok in
       fault-done p (r .0) (mappedTo (at b x) d p) (choices (at b x) d (setOf x d)) (first (at b x) d (setOf x d) (known inv .coloured))
-      (passed-first _ _ (r .1) .0))
+      (passed-first _ _ (passed-first _ _ (r .1) .1) .0))
 
   release-even : (p : ℕ) → freedOrMoved (release (at b x) d p .reply) ≡ false → Even d (release (at b x) d p .next)
   unfolding release called
@@ -125,6 +125,10 @@ module _ {b : Board} {t₀ : List ℕ} {x : Live} (inv : Inv b t₀ x) (d : ℕ)
   unfolding recolour called
   recolour-even c lent undone = refused-even (at b x) d _ _ refl undone even
 
+  quota-even : (q : ℕ) → Even d (setQuota (at b x) d q .next)
+  unfolding setQuota
+  quota-even q = under _ _ (λ ok. even)
+
 own-even : {b : Board} {t₀ : List ℕ} {s : State} → Good b t₀ s → (c : Call) → Even (names c) s → freedOrMoved (outcome s c .reply) ≡ false
     → Even (names c) (outcome s c .next)
 own-even (good inv) (Look d p) even undone = look-even inv d even p
@@ -132,6 +136,7 @@ own-even (good inv) (Fault d p) even undone = fault-even inv d even p
 own-even (good inv) (Release d p) even undone = release-even inv d even p undone
 own-even (good inv) (Colours d) even undone = colours-even inv d even
 own-even (good inv) (Recolour d c lent) even undone = recolour-even inv d even c lent undone
+own-even (good inv) (SetQuota d q) even undone = quota-even inv d even q
 
 -- each call, whosever it is, and so each history
 module _ {b : Board} {t₀ : List ℕ} {d : ℕ} (below : d < b .domains) where

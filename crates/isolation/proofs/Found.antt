@@ -4,14 +4,15 @@ use Prim.Native.Nat.{ℕ, _-_, _%_, _<_, _≤_}
 use native.Mathlib.Omega.{arith}
 use mathlib.Core.Bool.{Bool, true, false, true≢false}
 use mathlib.Core.List.{List, []}
-use mathlib.Core.Path.{_≡_, refl, sym, _∙_}
+use mathlib.Core.Path.{_≡_, refl, sym, ap, _∙_}
 use lib.Dec.{leb}
+use lib.ListN.{length}
 use borrow.Author.Tests.{eqb-true, eqb-false, leb-true}
 use Rattle.lists.proofs.Split.{cases, and-both}
 use Rattle.lists.proofs.Members.{Each}
 use Rattle.lists.proofs.Filter.{each-map, kept, kept-none, same-kept}
 use Rattle.board.specs.declared.Board.{Board}
-use Rattle.calls.specs.Table.{word, wordOf, isOf, hasWord, isStray, framesWith, mappedTo, strays}
+use Rattle.calls.specs.Table.{word, wordOf, isOf, hasWord, isHeld, isStray, framesWith, framesHeld, mappedTo, strays}
 use Rattle.calls.specs.Choices.{choices}
 use Rattle.calls.proofs.Choice.{Chosen, chosen, choice-local}
 use Rattle.isolation.proofs.AcceptedBoard.{Live, at, Inside}
@@ -41,6 +42,9 @@ has-word e p small =
 is-stray : (n e c : ℕ) → OwnTest e (λ t. isStray t n e c)
 is-stray n e c =
     record { by-word = λ t u f q. rw q; only = λ t f h. word-page e (word t f) (and-both (isOf e (word t f)) _ h .0) }
+
+is-held : (e : ℕ) → OwnTest e (λ t. isHeld t e)
+is-held e = record { by-word = λ t u f q. rw q; only = λ t f h. word-page e (word t f) h }
 
 module _ {b : Board} {t₀ : List ℕ} {x : Live} (inv : Inv b t₀ x) {e : ℕ} (below : e < b .domains) where
   -- a frame with a word of e
@@ -113,6 +117,10 @@ module _ {b : Board} {t₀ : List ℕ} {x y : Live} (inv : Inv b t₀ x) (inv′
   pub same-strays : (c : ℕ) → strays (at b x) d c ≡ strays (at b y) d c
   unfolding strays
   same-strays c = same-found _ (is-stray (b .colours) d c)
+
+  pub same-held : framesHeld (at b x) d ≡ framesHeld (at b y) d
+  unfolding framesHeld
+  same-held = ap length (same-found _ (is-held d))
 
   pub same-choices : (c : ℕ) → Inside b d c → choices (at b x) d c ≡ choices (at b y) d c
   same-choices c inside = choice-local (at b x) (at b y) d c refl refl (λ f h k. same f h (inside (f % b .colours) k))

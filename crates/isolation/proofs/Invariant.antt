@@ -5,18 +5,20 @@ use native.Mathlib.Omega.{arith}
 use mathlib.Core.Bool.{Bool, true, false}
 use mathlib.Core.List.{List, [], _∷_}
 use mathlib.Core.Logic.{_⊎_, inl, inr, ⊎-elim, _↔_}
-use mathlib.Core.Path.{_≡_, refl, sym, _∙_}
+use mathlib.Core.Path.{_≡_, refl, sym, ap, _∙_}
 use lib.Dec.{eqb}
 use lib.ListN.{length, set, length-set}
 use lib.Seq.{getD-set-same, getD-set-other}
 use borrow.Author.Tests.{eqb-true, eqb-false}
 use Rattle.lists.proofs.Split.{cases}
+use Rattle.refusal.specs.Reply.{passes}
 use Rattle.board.specs.declared.Board.{Board}
-use Rattle.board.specs.Tests.{grant, emptyOrOutside}
+use Rattle.board.specs.Tests.{grant, emptyOrOutside, noQuota, badQuotas}
 use Rattle.calls.specs.Table.{State, word, wordOf, inSet}
 use Rattle.calls.specs.Calls.{Move, move, moveAll}
+use Rattle.calls.proofs.Quotas.{board-still, quotas-still}
 use Rattle.isolation.specs.DomainRule.{Accepted}
-use Rattle.isolation.proofs.AcceptedBoard.{Live, live, at, withTable, withSet, Facts, facts, still}
+use Rattle.isolation.proofs.AcceptedBoard.{Live, live, at, withTable, withSet, withLimit, Facts, facts, still}
 
 -- a word after a write, at the frame written and at every other
 pub after-write : (P : ℕ → Type 0) (t : List ℕ) (f w g : ℕ) → f < length t → (g ≡ f → P w) → ((g ≡ f → ⊥) → P (word t g))
@@ -51,6 +53,8 @@ pub data Lawful (b : Board) (f w : ℕ) : Type 0 where
 
 pub record Inv (b : Board) (t₀ : List ℕ) (x : Live) : Type 0 where
   pub accepted : Accepted (at b x)
+  -- 26 refuses every call, as at the start, or none
+  pub quotas : badQuotas (at b x .board) ≡ badQuotas b
   pub lawful : (f : ℕ) → f < b .frames → Lawful b f (word (x .table) f)
   pub unique :
       (d p f g : ℕ) → d < b .domains → p ≤ 4095 → f < b .frames → g < b .frames
@@ -110,6 +114,7 @@ module _ {b : Board} {t₀ : List ℕ} {x : Live} (inv : Inv b t₀ x) where
         let l : f < length (x .table) = rw (known .long) (m .below) in
         record {
           accepted = rw (length-set (x .table) f w) (inv .accepted);
+          quotas = inv .quotas;
           lawful = λ g h.
               after-write (Lawful b g) (x .table) f w g l
               (λ q. ⊎-elim free (λ u. held (record { domain = e; below = below; own = rw q (m .own); has-page = u .0 })) fresh)
@@ -137,9 +142,22 @@ module _ {b : Board} {t₀ : List ℕ} {x : Live} (inv : Inv b t₀ x) where
 
   -- another active set that refusal 9 does not refuse keeps it
   pub recoloured : (e c : ℕ) → e < b .domains → emptyOrOutside (grant b e) c ≡ false → Inv b t₀ (withSet x e c)
+  unfolding badQuotas
   recoloured e c below fine =
       record {
         accepted = still b x (inv .accepted) e c below fine;
+        quotas = inv .quotas;
+        lawful = inv .lawful;
+        unique = inv .unique;
+        reserved = inv .reserved;
+      }
+
+  -- and so does another quota that refusal 27 does not refuse
+  pub allowed : (e q : ℕ) → badQuotas (at b x .board) ≡ false → e < b .domains → noQuota q ≡ false → Inv b t₀ (withLimit x e q)
+  allowed e q awake below fine =
+      record {
+        accepted = ap passes (board-still (at b x .board) (set (x .quotas) e q) (length (x .table))) ∙ inv .accepted;
+        quotas = quotas-still (at b x .board) e q awake below fine ∙ sym awake ∙ inv .quotas;
         lawful = inv .lawful;
         unique = inv .unique;
         reserved = inv .reserved;

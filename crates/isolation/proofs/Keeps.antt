@@ -7,18 +7,19 @@ use mathlib.Core.Path.{_≡_, refl, sym, _∙_}
 use lib.ListN.{set}
 use lib.Seq.{getD-set-other}
 use Rattle.lists.specs.Range.{headOr, isEmpty}
+use Rattle.lists.proofs.Split.{neither}
 use Rattle.lists.proofs.Members.{Each}
 use Rattle.refusal.specs.Reply.{Test, passes}
 use Rattle.refusal.proofs.Replies.{passed-first}
 use Rattle.board.specs.declared.Board.{Board}
-use Rattle.board.specs.Tests.{grant, emptyOrOutside}
+use Rattle.board.specs.Tests.{grant, emptyOrOutside, noQuota, badQuotas}
 use Rattle.calls.specs.Table.{State, word, wordOf, mappedTo, strays}
 use Rattle.calls.specs.Choices.{choices}
-use Rattle.calls.specs.Calls.{Move, Done, called, written, pageTest, look, faultDone, fault, release, colours, pairUp, move, moveAll, recolour}
-use Rattle.isolation.specs.DomainRule.{Call, Look, Fault, Release, Colours, Recolour, names, outcome}
+use Rattle.calls.specs.Calls.{Move, Done, called, written, pageTest, look, faultDone, fault, release, colours, pairUp, move, moveAll, recolour, setQuota}
+use Rattle.isolation.specs.DomainRule.{Call, Look, Fault, Release, Colours, Recolour, SetQuota, names, outcome}
 use Rattle.isolation.proofs.AcceptedBoard.{Live, at, withTable, withSet, setOf, set-inside}
 use Rattle.isolation.proofs.TestLists.{called-one, small-page}
-use Rattle.isolation.proofs.Invariant.{granted, Inv, Good, good, Mine, Fresh, known, put, MovesMine, moves-keep, recoloured}
+use Rattle.isolation.proofs.Invariant.{granted, Inv, Good, good, Mine, Fresh, known, put, MovesMine, moves-keep, recoloured, allowed}
 use Rattle.isolation.proofs.Agree.{Agree, agree-self}
 use Rattle.isolation.proofs.Found.{mapped-mine, choices-mine, strays-mine, unmapped}
 
@@ -49,9 +50,14 @@ module _ {b : Board} {t₀ : List ℕ} {x : Live} (inv : Inv b t₀ x) (e : ℕ)
   unchanged = record { good-next = good inv; others = λ d low other. agree-self (at b x) }
 
   -- a call under its tests: what remains is the outcome where they pass
+  under-all : (own : List Test) (done : Done)
+      → (badQuotas (at b x .board) ≡ false → e < b .domains → passes own ≡ true → Kept b t₀ e (at b x) (done .next))
+      → Kept b t₀ e (at b x) (called (at b x) e own done .next)
+  under-all own done f = called-one (Kept b t₀ e (at b x)) (at b x) unchanged (inv .accepted) e own done f
+
   under : (own : List Test) (done : Done) → (e < b .domains → passes own ≡ true → Kept b t₀ e (at b x) (done .next))
       → Kept b t₀ e (at b x) (called (at b x) e own done .next)
-  under own done f = called-one (Kept b t₀ e (at b x)) (at b x) unchanged (inv .accepted) e own done f
+  under own done f = under-all own done (λ awake. f)
 
   -- a call for a page
   paged : (p : ℕ) (own : List Test) (done : Done)
@@ -76,7 +82,7 @@ module _ {b : Board} {t₀ : List ℕ} {x : Live} (inv : Inv b t₀ x) (e : ℕ)
       record {
         good-next = good (put inv below f w mine fresh);
         others = λ d low other.
-            record { active = refl; words = λ g h own. getD-set-other (x .table) f g w 0 (not-mine below d low other g own f mine) };
+            record { active = refl; allowed = refl; words = λ g h own. getD-set-other (x .table) f g w 0 (not-mine below d low other g own f mine) };
       }
 
   fault-done : e < b .domains → (p : ℕ) → p ≤ 4095 → (ms gs : List ℕ)
@@ -92,7 +98,7 @@ module _ {b : Board} {t₀ : List ℕ} {x : Live} (inv : Inv b t₀ x) (e : ℕ)
   fault-keeps p =
       paged p _ _ (λ below small ok.
       fault-done below p small (mappedTo (at b x) e p) (choices (at b x) e (setOf x e)) (unmapped b x e p)
-      (choices-mine inv below (setOf x e) (known inv .inside e below)) (passed-first _ _ ok .0))
+      (choices-mine inv below (setOf x e) (known inv .inside e below)) (passed-first _ _ (passed-first _ _ ok .1) .0))
 
   release-done : e < b .domains → (ms : List ℕ) → Each (Mine b t₀ e) ms → isEmpty ms ≡ false
       → Kept b t₀ e (at b x) (written (at b x) (headOr 0 ms) 0)
@@ -111,6 +117,7 @@ module _ {b : Board} {t₀ : List ℕ} {x : Live} (inv : Inv b t₀ x) (e : ℕ)
         good-next = good (recoloured (moves-keep below x ms mine inv) e c below ok);
         others = λ d low other. record {
           active = getD-set-other (x .active) e d c 0 (λ q. other (sym q));
+          allowed = refl;
           words = λ f h own. moves-elsewhere ms (x .table) mine f (not-mine below d low other f own);
         };
       }
@@ -125,9 +132,20 @@ module _ {b : Board} {t₀ : List ℕ} {x : Live} (inv : Inv b t₀ x) (e : ℕ)
       recolour-done below c (pairUp e (x .table) vs gs)
       (pairs-mine b t₀ e (x .table) vs gs (strays-mine inv below c) (choices-mine inv below c (set-inside b e c nine))) nine)
 
+  pub quota-keeps : (q : ℕ) → Kept b t₀ e (at b x) (setQuota (at b x) e q .next)
+  unfolding setQuota
+  quota-keeps q =
+      under-all _ _ (λ awake below ok.
+      record {
+        good-next = good (allowed inv e q awake below (neither (noQuota q) _ (passed-first _ _ ok .0) .0));
+        others = λ d low other.
+            record { active = refl; allowed = getD-set-other (x .quotas) e d q 0 (λ z. other (sym z)); words = λ f h own. refl };
+      })
+
 pub call-keeps : {b : Board} {t₀ : List ℕ} {s : State} → Good b t₀ s → (c : Call) → Kept b t₀ (names c) s (outcome s c .next)
 call-keeps (good inv) (Look d p) = look-keeps inv d p
 call-keeps (good inv) (Fault d p) = fault-keeps inv d p
 call-keeps (good inv) (Release d p) = release-keeps inv d p
 call-keeps (good inv) (Colours d) = colours-keeps inv d
 call-keeps (good inv) (Recolour d c lent) = recolour-keeps inv d c lent
+call-keeps (good inv) (SetQuota d q) = quota-keeps inv d q

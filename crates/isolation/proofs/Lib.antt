@@ -1,4 +1,4 @@
--- The arguments for the domain rule and for even use of colours.
+-- The arguments for the domain rule, for even use of colours and for quotas.
 pub mod Unwinding
 pub mod AcceptedBoard
 pub mod TestLists
@@ -8,7 +8,10 @@ pub mod Found
 pub mod Keeps
 pub mod Sees
 pub mod Reveals
+pub mod Idle
 pub mod Rule
 pub mod MoveLists
 pub mod Theorems
 pub mod EvenUse
+pub mod Quotas
+pub mod Room

@@ -1,32 +1,33 @@
--- What colours and look tell a domain determines all that it sees: its active set, and the words of the frames of its grant. That look
+-- What colours and look tell a domain determines all that it sees: its active set, its quota, and the words of the frames of its grant. That look
 -- shows only the lowest frame of a page is enough, since no page has two; and frames that look does not show are reserved, in both states
 -- just those of the start, or free.
 use Prim.Native.Nat.{ℕ, _<_, _≤_}
-use mathlib.Core.Bool.{true}
+use mathlib.Core.Bool.{true, false}
 use mathlib.Core.List.{List, [], _∷_}
 use mathlib.Core.Path.{_≡_, refl, sym, ap, _∙_}
 use borrow.Author.Tests.{eqb-true, lt-ltb, le-ltb}
 use Rattle.lists.proofs.Members.{Each}
 use Rattle.refusal.specs.Reply.{Answers, unless}
 use Rattle.board.specs.declared.Board.{Board}
+use Rattle.board.specs.Tests.{badQuotas}
 use Rattle.calls.specs.Table.{State, word, wordOf, hasWord, mappedTo}
 use Rattle.calls.specs.Calls.{Mapped, Active, settle, lookAnswer, look, colours}
 use Rattle.isolation.specs.DomainRule.{SameColours, SameMap}
-use Rattle.isolation.proofs.AcceptedBoard.{Live, at, setOf}
+use Rattle.isolation.proofs.AcceptedBoard.{Live, at, setOf, limitOf}
 use Rattle.isolation.proofs.TestLists.{called-accepted}
 use Rattle.isolation.proofs.Invariant.{PageWord, Lawful, free, reserved, held, Inv, Good, good, held-own}
 use Rattle.isolation.proofs.Agree.{SameWords, Agree}
 use Rattle.isolation.proofs.Found.{mapped, unmapped}
 
-module _ {b : Board} {t₀ : List ℕ} {d : ℕ} (below : d < b .domains) where
+module _ {b : Board} {t₀ : List ℕ} {d : ℕ} (awake : badQuotas b ≡ false) (below : d < b .domains) where
   module _ {x : Live} (inv : Inv b t₀ x) where
-    colours-told : colours (at b x) d .reply ≡ Answers (Active (setOf x d))
+    colours-told : colours (at b x) d .reply ≡ Answers (Active (setOf x d) (limitOf x d))
     unfolding colours unless settle
-    colours-told = rw (called-accepted (at b x) d _ _ (inv .accepted), lt-ltb d (b .domains) below)
+    colours-told = rw (called-accepted (at b x) d _ _ (inv .accepted), inv .quotas, awake, lt-ltb d (b .domains) below)
 
     look-told : (p : ℕ) → p ≤ 4095 → look (at b x) d p .reply ≡ Answers (lookAnswer (mappedTo (at b x) d p))
     unfolding look unless settle
-    look-told p small = rw (called-accepted (at b x) d _ _ (inv .accepted), lt-ltb d (b .domains) below, le-ltb 4095 p small)
+    look-told p small = rw (called-accepted (at b x) d _ _ (inv .accepted), inv .quotas, awake, lt-ltb d (b .domains) below, le-ltb 4095 p small)
 
     module _ (p f : ℕ) where
       abbrev Has : ℕ → Type 0
@@ -68,4 +69,5 @@ module _ {b : Board} {t₀ : List ℕ} {d : ℕ} (below : d < b .domains) where
 
   pub reveals : {s r : State} → Good b t₀ s → Good b t₀ r → SameColours d s r → SameMap d s r → Agree b d s r
   reveals (good inv) (good inv′) same map =
-      record { active = (let e = sym (colours-told inv) ∙ same ∙ colours-told inv′ in cc); words = words-told inv inv′ map }
+      let e = sym (colours-told inv) ∙ same ∙ colours-told inv′ in
+      record { active = cc; allowed = cc; words = words-told inv inv′ map }

@@ -1,14 +1,16 @@
 -- The domain rule: the start has the invariant, every call keeps it, own calls go by what the domain sees and others leave that alone, and
--- colours and look tell all of it. Unwinding gives the rule.
+-- colours and look tell all of it; on a board that 26 refuses nothing ever changes. Unwinding gives the rule.
 use Prim.Native.Nat.{ℕ, _<_}
 use native.Mathlib.Omega.{arith}
 use mathlib.Core.Bool.{Bool, true, false}
 use mathlib.Core.List.{List, [], _∷_}
-use mathlib.Core.Logic.{_⊎_, inl, inr, ⊎-elim}
+use mathlib.Core.Logic.{_⊎_, inl, inr, ⊎-elim, _↔_}
 use mathlib.Core.Path.{_≡_, refl, sym, ap, _∙_}
 use lib.Dec.{eqb}
 use borrow.Author.Tests.{eqb-true, eqb-false, eq-eqb}
+use Rattle.lists.proofs.Split.{cases}
 use Rattle.board.specs.declared.Board.{Board}
+use Rattle.board.specs.Tests.{badQuotas}
 use Rattle.calls.specs.Table.{State, word}
 use Rattle.isolation.specs.DomainRule.{Call, Look, Colours, names, outcome, run, own, Told, told, answers}
 use Rattle.isolation.specs.DomainRule.{SameColours, SameMap, Accepted, Empty, DomainRule}
@@ -19,6 +21,7 @@ use Rattle.isolation.proofs.Agree.{Agree, agree-self, agree-back, agree
 use Rattle.isolation.proofs.Keeps.{call-keeps}
 use Rattle.isolation.proofs.Sees.{call-meets}
 use Rattle.isolation.proofs.Reveals.{reveals}
+use Rattle.isolation.proofs.Idle.{Still, still-own, still-other, still-left, still-shown}
 
 abbrev step : State → Call → State
 step s c = outcome s c .next
@@ -36,6 +39,7 @@ start-good s ok empty =
     let few = facts (s .board) (live s) ok .few in
     good {x = live s} (record {
       accepted = ok;
+      quotas = refl;
       lawful = λ f h. ⊎-elim free reserved (empty-word s empty f h);
       unique = λ d p f g below small hf hg q r. absurd (⊎-elim (λ z. omega arith) (λ z. omega arith) (empty-word s empty f hf));
       reserved = λ f h. (λ e. e, λ e. e);
@@ -81,9 +85,9 @@ module _ {b : Board} {t₀ : List ℕ} {d : ℕ} (below : d < b .domains) where
         agree = agree-on (kept .others d below (eqb-false (names c) d e)) (k .agree);
       }
 
-  reveal : (s r s′ r′ : State) → Related b t₀ d s s′ → Related b t₀ d r r′ → Shows d s′ r′ → Related b t₀ d s r
-  reveal s r s′ r′ k l w =
-      let m = reveals below (k .right-good) (l .right-good) (w .0) (w .1) in
+  reveal : badQuotas b ≡ false → (s r s′ r′ : State) → Related b t₀ d s s′ → Related b t₀ d r r′ → Shows d s′ r′ → Related b t₀ d s r
+  reveal awake s r s′ r′ k l w =
+      let m = reveals awake below (k .right-good) (l .right-good) (w .0) (w .1) in
       record {
         left-good = k .left-good;
         right-good = l .left-good;
@@ -113,14 +117,26 @@ unfolding answers heard
 heard-is d s [] = refl
 heard-is d s (c ∷ cs) = rw (heard-is d (step s c) cs)
 
--- its equation of own calls may stand either way round
-pub domain-rule : DomainRule
-domain-rule start ok empty d below h k =
+-- the rule of the unwinding: on a board with a quota that is none, where nothing ever changes, and on any other
+abbrev Alike : ℕ → State → State → Type 0
+Alike d s r = (l m : List Call) → owns (names-it d) l ≡ owns (names-it d) m → heard step told (names-it d) s l ≡ heard step told (names-it d) r m
+
+unwound : (start : State) → Accepted start → Empty start → (d : ℕ) → d < start .board .domains → (h k : List Call)
+    → Alike d (runs step start h) (runs step start k) ↔ Shows d (runs step start (owns (names-it d) h)) (runs step start (owns (names-it d) k))
+unwound start ok empty d below h k =
     let g = start-good start ok empty in
     let self : Related (start .board) (start .table) d start start =
     record { left-good = g; right-good = g; agree = agree-self start } in
-    let unwound =
+    cases (badQuotas (start .board))
+    (λ asleep.
+    rule step told (names-it d) (Still start) (λ s r c q e. still-own start ok asleep s r c q) (λ s r c q e. still-other start ok asleep s r c q)
+    (Shows d) (still-left start) (λ s r s′ r′ q z w. (q .0, z .0)) (λ s r s′ r′ q z same. still-shown start d s′ r′ (q .1) (z .1)) start (refl, refl) h k)
+    (λ awake.
     rule step told (names-it d) (Related (start .board) (start .table) d) (own-step below) (other-step below)
-    (Shows d) left (reveal below) (shown below) start self h k in
-    let r = simp (run-is, own-is, heard-is) at unwound in
+    (Shows d) left (reveal below awake) (shown below) start self h k)
+
+-- its equation of own calls may stand either way round
+pub domain-rule : DomainRule
+domain-rule start ok empty d below h k =
+    let r = simp (run-is, own-is, heard-is) at (unwound start ok empty d below h k) in
     (λ same. r .0 (λ l m e. same l m (cc)), λ w l m e. r .1 w l m (cc))

@@ -2,7 +2,7 @@
 use Prim.Native.Nat.{ℕ, _<_}
 use mathlib.Core.Bool.{true, false, _&&_, true≢false}
 use mathlib.Core.List.{List, [], _∷_, _++_}
-use mathlib.Core.Path.{_≡_, refl, sym, ap, _∙_}
+use mathlib.Core.Path.{_≡_, refl, sym, ap, ap₂, _∙_}
 use lib.ListN.{length, set, length-set}
 use lib.Seq.{getD-set-same, getD-set-other}
 use Rattle.lists.specs.Range.{headOr, isEmpty}
@@ -10,17 +10,18 @@ use Rattle.lists.proofs.Members.{Each}
 use Rattle.refusal.specs.Reply.{Reply, Answers, Test, test, unless, passes}
 use Rattle.refusal.proofs.Replies.{passed-first}
 use Rattle.board.specs.declared.Board.{Board}
-use Rattle.board.specs.Tests.{grant, emptyOrOutside}
+use Rattle.board.specs.Tests.{grant, emptyOrOutside, badQuotas}
+use Rattle.board.proofs.Passed.{quotas-split, quota-placed}
 use Rattle.calls.specs.Table.{State, word, wordOf, mappedTo, strays}
 use Rattle.calls.specs.Choices.{choices}
 use Rattle.calls.specs.Calls.{Freed, Active, Move, Done, settle, called, written, pageTest, lookAnswer, faultDone, pairUp, move, moveAll}
-use Rattle.calls.specs.Calls.{look, fault, release, colours, recolour}
-use Rattle.isolation.specs.DomainRule.{Call, Look, Fault, Release, Colours, Recolour, names, outcome}
-use Rattle.isolation.proofs.AcceptedBoard.{Live, at, withTable, withSet, setOf, set-inside}
+use Rattle.calls.specs.Calls.{look, fault, release, colours, recolour, setQuota}
+use Rattle.isolation.specs.DomainRule.{Call, Look, Fault, Release, Colours, Recolour, SetQuota, names, outcome}
+use Rattle.isolation.proofs.AcceptedBoard.{Live, at, withTable, withSet, withLimit, setOf, set-inside}
 use Rattle.isolation.proofs.TestLists.{Meet, answered, unless-two, called-two, small-page}
 use Rattle.isolation.proofs.Invariant.{after-write, Inv, Good, good, Mine, known, MovesMine}
 use Rattle.isolation.proofs.Agree.{SameWords, Agree}
-use Rattle.isolation.proofs.Found.{mapped-mine, choices-mine, strays-mine, same-mapped, same-choices, same-strays}
+use Rattle.isolation.proofs.Found.{mapped-mine, choices-mine, strays-mine, same-mapped, same-held, same-choices, same-strays}
 use Rattle.isolation.proofs.Keeps.{pairs-mine}
 
 module _ (b : Board) (t₀ : List ℕ) (d : ℕ) where
@@ -54,9 +55,14 @@ module _ {b : Board} {t₀ : List ℕ} {d : ℕ} {x y : Live} (inv : Inv b t₀ 
   Both o q = Meet (Agree b d) (settle (at b x) o) (settle (at b y) q)
 
   -- a call under its tests, of which the first are the same on both sides
+  under-all : (first us us′ : List Test) (o q : Done)
+      → (badQuotas (at b y .board) ≡ false → d < b .domains → passes first ≡ true → Both (unless us o) (unless us′ q))
+      → Meet (Agree b d) (called (at b x) d (first ++ us) o) (called (at b y) d (first ++ us′) q)
+  under-all = called-two (Agree b d) b x y sees (inv .accepted) (inv′ .accepted) (inv .quotas ∙ sym (inv′ .quotas)) d
+
   under : (first us us′ : List Test) (o q : Done) → (d < b .domains → passes first ≡ true → Both (unless us o) (unless us′ q))
       → Meet (Agree b d) (called (at b x) d (first ++ us) o) (called (at b y) d (first ++ us′) q)
-  under = called-two (Agree b d) b x y sees (inv .accepted) (inv′ .accepted) d
+  under first us us′ o q f = under-all first us us′ o q (λ awake. f)
 
   pub look-meets : (p : ℕ) → Meet (Agree b d) (look (at b x) d p) (look (at b y) d p)
   unfolding look unless
@@ -66,7 +72,7 @@ module _ {b : Board} {t₀ : List ℕ} {d : ℕ} {x y : Live} (inv : Inv b t₀ 
 
   pub colours-meets : Meet (Agree b d) (colours (at b x) d) (colours (at b y) d)
   unfolding colours unless
-  colours-meets = under [] _ _ _ _ (λ below ok. answered (Agree b d) sees (ap Active (sees .active)) refl sees)
+  colours-meets = under [] _ _ _ _ (λ below ok. answered (Agree b d) sees (ap₂ Active (sees .active) (sees .allowed)) refl sees)
 
   same-free : d < b .domains → choices (at b x) d (setOf x d) ≡ choices (at b y) d (setOf y d)
   same-free below = rw (← (sees .active)) (same-choices inv inv′ below (sees .words) (setOf x d) (known inv .inside d below))
@@ -75,6 +81,7 @@ module _ {b : Board} {t₀ : List ℕ} {d : ℕ} {x y : Live} (inv : Inv b t₀ 
   wrote f w mine =
       record {
         active = sees .active;
+        allowed = sees .allowed;
         words =
             same-write b t₀ d (x .table) (y .table) f w (rw (known inv .long) (mine .below)) (rw (known inv′ .long) (mine .below)) (sees .words);
       }
@@ -89,10 +96,15 @@ module _ {b : Board} {t₀ : List ℕ} {d : ℕ} {x y : Live} (inv : Inv b t₀ 
   unfolding fault
   fault-meets p =
       under (pageTest p ∷ []) _ _ _ _ (λ below ok.
-      rw (← (same-mapped inv inv′ below (sees .words) p (small-page p [] ok .0)), ← (same-free below))
+      rw (
+        ← (same-mapped inv inv′ below (sees .words) p (small-page p [] ok .0)),
+        ← (same-free below),
+        ← (sees .allowed),
+        ← (same-held inv inv′ below (sees .words)),
+      )
       (unless-two (Agree b d) sees _ _ _ (λ some.
       fault-done (wordOf d p) (mappedTo (at b x) d p) (choices (at b x) d (setOf x d))
-      (choices-mine inv below (setOf x d) (known inv .inside d below)) (passed-first _ _ some .0))))
+      (choices-mine inv below (setOf x d) (known inv .inside d below)) (passed-first _ _ (passed-first _ _ some .1) .0))))
 
   release-done : (ms : List ℕ) → Each (Mine b t₀ d) ms → isEmpty ms ≡ false
       → Both (Answers (record { answer = Freed (headOr 0 ms); moves = []; next = written (at b x) (headOr 0 ms) 0 }))
@@ -114,6 +126,7 @@ module _ {b : Board} {t₀ : List ℕ} {d : ℕ} {x y : Live} (inv : Inv b t₀ 
   recolour-done below c ms mine =
       record {
         active = getD-set-same (x .active) d c 0 (known inv .placed d below) ∙ sym (getD-set-same (y .active) d c 0 (known inv′ .placed d below));
+        allowed = sees .allowed;
         words = same-moves b t₀ d ms (x .table) (y .table) (known inv .long) (known inv′ .long) mine (sees .words);
       }
 
@@ -134,6 +147,24 @@ module _ {b : Board} {t₀ : List ℕ} {d : ℕ} {x y : Live} (inv : Inv b t₀ 
       answered (Agree b d) sees refl refl
       (recolour-done below c (pairUp d (x .table) vs gs) (pairs-mine b t₀ d (x .table) vs gs stray (choices-mine inv below c inside))))))
 
+  quota-done : badQuotas (at b y .board) ≡ false → d < b .domains → (q : ℕ) → Agree b d (at b (withLimit x d q)) (at b (withLimit y d q))
+  quota-done awake below q =
+      let both : badQuotas (at b x .board) ≡ false = inv .quotas ∙ sym (inv′ .quotas) ∙ awake in
+      let at-x = quota-placed (x .quotas) d (quotas-split (at b x .board) both d below) in
+      let at-y = quota-placed (y .quotas) d (quotas-split (at b y .board) awake d below) in
+      record {
+        active = sees .active;
+        allowed = getD-set-same (x .quotas) d q 0 at-x ∙ sym (getD-set-same (y .quotas) d q 0 at-y);
+        words = sees .words;
+      }
+
+  pub quota-meets : (q : ℕ) → Meet (Agree b d) (setQuota (at b x) d q) (setQuota (at b y) d q)
+  unfolding setQuota
+  quota-meets q =
+      under-all [] _ _ _ _ (λ awake below ok.
+      rw (← (same-held inv inv′ below (sees .words)))
+      (unless-two (Agree b d) sees _ _ _ (λ some. answered (Agree b d) sees refl refl (quota-done awake below q))))
+
 pub call-meets : {b : Board} {t₀ : List ℕ} {d : ℕ} {s r : State} → Good b t₀ s → Good b t₀ r → Agree b d s r → (c : Call) → names c ≡ d
     → Meet (Agree b d) (outcome s c) (outcome r c)
 call-meets (good inv) (good inv′) sees (Look e p) q = rw q (look-meets inv inv′ sees p)
@@ -141,3 +172,4 @@ call-meets (good inv) (good inv′) sees (Fault e p) q = rw q (fault-meets inv i
 call-meets (good inv) (good inv′) sees (Release e p) q = rw q (release-meets inv inv′ sees p)
 call-meets (good inv) (good inv′) sees (Colours e) q = rw q (colours-meets inv inv′ sees)
 call-meets (good inv) (good inv′) sees (Recolour e c lent) q = rw q (recolour-meets inv inv′ sees c lent)
+call-meets (good inv) (good inv′) sees (SetQuota e n) q = rw q (quota-meets inv inv′ sees n)

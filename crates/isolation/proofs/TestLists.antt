@@ -1,7 +1,7 @@
--- Calls under their tests: in an accepted state a call goes by its caller's test and its own. What holds of a refusal, and of the outcome
+-- Calls under their tests: in an accepted state a call goes by 26, its caller's test and its own. What holds of a refusal, and of the outcome
 -- where all tests pass, holds of the call, for one state and for two.
 use Prim.Native.Nat.{ℕ, _<_, _≤_}
-use mathlib.Core.Bool.{true}
+use mathlib.Core.Bool.{true, false}
 use mathlib.Core.List.{List, [], _∷_, _++_, append-assoc, append-nil}
 use mathlib.Core.Path.{_≡_, refl, ap}
 use lib.ListN.{length}
@@ -11,7 +11,7 @@ use Rattle.refusal.specs.Reply.{Answers, Test, unless, passes}
 use Rattle.refusal.proofs.Replies.{passed-first, passed-answers}
 use Rattle.refusal.proofs.Order.{unless-passed}
 use Rattle.board.specs.declared.Board.{Board}
-use Rattle.board.specs.Tests.{stateTests, callerTest, callTests}
+use Rattle.board.specs.Tests.{boardTests, badQuotas, quotasTest, stateTests, callerTest, callTests}
 use Rattle.board.proofs.Passed.{caller-below}
 use Rattle.calls.specs.Table.{State}
 use Rattle.calls.specs.Calls.{Done, Outcome, settle, called, pageTest}
@@ -20,12 +20,13 @@ use Rattle.isolation.proofs.AcceptedBoard.{Live, at}
 
 -- in an accepted state
 pub called-accepted : (s : State) (d : ℕ) (own : List Test) (done : Done) → Accepted s
-    → called s d own done ≡ settle s (unless (callerTest (s .board) d ∷ own) done)
-unfolding called callTests
+    → called s d own done ≡ settle s (unless (quotasTest (s .board) ∷ callerTest (s .board) d ∷ own) done)
+unfolding called callTests stateTests
 called-accepted s d own done ok =
-    let state = stateTests (s .board) (length (s .table)) in
-    rw (append-assoc state (callerTest (s .board) d ∷ []) own)
-    (ap (settle s) (unless-passed done done state (callerTest (s .board) d ∷ own) (passed-answers state done ok)))
+    let seven = boardTests (s .board) (length (s .table)) in
+    let later = quotasTest (s .board) ∷ callerTest (s .board) d ∷ own in
+    rw (append-assoc (seven ++ (quotasTest (s .board) ∷ [])) (callerTest (s .board) d ∷ []) own, append-assoc seven (quotasTest (s .board) ∷ []) (callerTest (s .board) d ∷ own))
+    (ap (settle s) (unless-passed done done seven later (passed-answers seven done ok)))
 
 -- the page of a call that passes 10
 pub small-page : (p : ℕ) (own : List Test) → passes (pageTest p ∷ own) ≡ true → (p ≤ 4095) × (passes own ≡ true)
@@ -33,16 +34,20 @@ small-page p own ok = let r = passed-first (pageTest p) own ok in (ltb-false 409
 
 -- one state: what holds of it, and of the next one where the tests pass, holds of the next one under the tests
 module _ (K : State → Type 0) (s : State) (k : K s) where
-  unless-one : (ts : List Test) (done : Done) → (passes ts ≡ true → K (done .next)) → K (settle s (unless ts done) .next)
+  pub unless-one : (ts : List Test) (done : Done) → (passes ts ≡ true → K (done .next)) → K (settle s (unless ts done) .next)
   unfolding unless passes settle
   unless-one [] done f = f refl
   unless-one (t ∷ ts) done f = cases (t .fails) (λ e. rw e k) (λ e. rw e (unless-one ts done (λ p. f (rw e p))))
 
-  pub called-one : Accepted s → (d : ℕ) (own : List Test) (done : Done) → (d < s .board .domains → passes own ≡ true → K (done .next))
+  pub called-one : Accepted s → (d : ℕ) (own : List Test) (done : Done)
+      → (badQuotas (s .board) ≡ false → d < s .board .domains → passes own ≡ true → K (done .next))
       → K (called s d own done .next)
   called-one ok d own done f =
       rw (called-accepted s d own done ok)
-      (unless-one (callerTest (s .board) d ∷ own) done (λ p. let r = passed-first _ own p in f (caller-below (s .board) d (r .0)) (r .1)))
+      (unless-one (quotasTest (s .board) ∷ callerTest (s .board) d ∷ own) done (λ p.
+      let q = passed-first _ _ p in
+      let r = passed-first _ own (q .1) in
+      f (q .0) (caller-below (s .board) d (r .0)) (r .1)))
 
 -- two states: the same replies and moves, and related next states
 pub record Meet (R : State → State → Type 0) (o q : Outcome) : Type 0 where
@@ -75,10 +80,13 @@ module _ (R : State → State → Type 0) {s r : State} (k : R s r) where
 
 -- a call on both sides, of one board with two live parts
 module _ (R : State → State → Type 0) (b : Board) (x y : Live) (k : R (at b x) (at b y)) where
-  pub called-two : Accepted (at b x) → Accepted (at b y) → (d : ℕ) (first us us′ : List Test) (o q : Done)
-      → (d < b .domains → passes first ≡ true → Meet R (settle (at b x) (unless us o)) (settle (at b y) (unless us′ q)))
+  pub called-two : Accepted (at b x) → Accepted (at b y) → badQuotas (at b x .board) ≡ badQuotas (at b y .board)
+      → (d : ℕ) (first us us′ : List Test) (o q : Done)
+      → (badQuotas (at b y .board) ≡ false → d < b .domains → passes first ≡ true → Meet R (settle (at b x) (unless us o)) (settle (at b y) (unless us′ q)))
       → Meet R (called (at b x) d (first ++ us) o) (called (at b y) d (first ++ us′) q)
-  called-two ok ok′ d first us us′ o q f =
-      rw (called-accepted (at b x) d (first ++ us) o ok, called-accepted (at b y) d (first ++ us′) q ok′)
-      (unless-both R k (callerTest b d ∷ first) us us′ o q
-      (λ p. let r = passed-first _ first p in f (caller-below b d (r .0)) (r .1)))
+  called-two ok ok′ same d first us us′ o q f =
+      rw (called-accepted (at b x) d (first ++ us) o ok, called-accepted (at b y) d (first ++ us′) q ok′, same)
+      (unless-both R k (quotasTest (at b y .board) ∷ callerTest b d ∷ first) us us′ o q (λ p.
+      let z = passed-first _ _ p in
+      let r = passed-first _ first (z .1) in
+      f (z .0) (caller-below b d (r .0)) (r .1)))

@@ -1,5 +1,5 @@
 -- The domain rule, demand 3 of document 01, with its words: two histories look the same to a domain exactly when its own calls,
--- replayed alone, leave the same active colours and the same map from pages to frames.
+-- replayed alone, leave the same active colours, the same quota (document 02, No. 6) and the same map from pages to frames.
 use Prim.Native.Nat.{ℕ, _<_, _≤_}
 use mathlib.Core.Bool.{true}
 use mathlib.Core.List.{List, [], _∷_}
@@ -11,15 +11,17 @@ use Rattle.lists.specs.Choice.{if_then_else_}
 use Rattle.refusal.specs.Reply.{Reply, passes}
 use Rattle.board.specs.Tests.{boardTests}
 use Rattle.calls.specs.Table.{State, word}
-use Rattle.calls.specs.Calls.{Answer, Outcome, look, fault, release, colours, recolour, listed}
+use Rattle.calls.specs.Calls.{Answer, Outcome, look, fault, release, colours, recolour, setQuota, listed}
 
--- A call: the domain that it names, any number, and a page for look, fault and release, a set and a move list of its own for recolour.
+-- A call: the domain that it names, any number, and a page for look, fault and release, a set and a move list of its own for recolour, a quota for
+-- set quota.
 pub data Call : Type 0 where
   Look : ℕ → ℕ → Call
   Fault : ℕ → ℕ → Call
   Release : ℕ → ℕ → Call
   Colours : ℕ → Call
   Recolour : ℕ → ℕ → List ℕ → Call
+  SetQuota : ℕ → ℕ → Call
 
 abbrev pub names : Call → ℕ
 names (Look d p) = d
@@ -27,6 +29,7 @@ names (Fault d p) = d
 names (Release d p) = d
 names (Colours d) = d
 names (Recolour d c list) = d
+names (SetQuota d q) = d
 
 abbrev pub outcome : State → Call → Outcome
 outcome s (Look d p) = look s d p
@@ -34,6 +37,7 @@ outcome s (Fault d p) = fault s d p
 outcome s (Release d p) = release s d p
 outcome s (Colours d) = colours s d
 outcome s (Recolour d c list) = recolour s d c list
+outcome s (SetQuota d q) = setQuota s d q
 
 -- A history is a list of calls. Each gets the board and table that the one before left; refused calls count.
 unfoldable pub run : State → List Call → State
@@ -52,6 +56,7 @@ lent (Fault d p) = []
 lent (Release d p) = []
 lent (Colours d) = []
 lent (Recolour d c list) = list
+lent (SetQuota d q) = []
 
 -- What a domain is told by an own call: the answer, or the refusal's number and row, and the move list as it stands afterwards, word by word
 -- (document 02, No. 4). The board handed back is no part of it.
@@ -73,7 +78,7 @@ answers d s (c ∷ cs) =
 abbrev pub LookTheSame : ℕ → State → State → Type 0
 LookTheSame d s r = (l m : List Call) → own d l ≡ own d m → answers d s l ≡ answers d r m
 
--- The active colours, what the colours call answers; the map, what look answers for each page 0 to 4,095.
+-- The active colours and the quota, what the colours call answers; the map, what look answers for each page 0 to 4,095.
 abbrev pub SameColours : ℕ → State → State → Type 0
 SameColours d s r = colours s d .reply ≡ colours r d .reply
 

@@ -10,7 +10,7 @@ use Rattle.colours.specs.Sets.{has}
 use Rattle.board.specs.Tests.{activeSet}
 use Rattle.calls.specs.Table.{State, hasWord, isHeld}
 use Rattle.calls.specs.Choices.{inColour}
-use Rattle.calls.specs.Calls.{Answer, Mapped, Unmapped, Old, New, Freed, Active, Moved}
+use Rattle.calls.specs.Calls.{Answer, Mapped, Unmapped, Old, New, Freed, Active, Moved, Quota}
 use Rattle.isolation.specs.DomainRule.{Call, names, outcome, run, Accepted, Empty}
 
 -- The reply of a release or a recolouring that was done. A refused one does nothing, so it may stand in the history.
@@ -20,8 +20,9 @@ freedOrMoved (Answers Unmapped) = false
 freedOrMoved (Answers (Old f)) = false
 freedOrMoved (Answers (New f)) = false
 freedOrMoved (Answers (Freed f)) = true
-freedOrMoved (Answers (Active c)) = false
+freedOrMoved (Answers (Active c q)) = false
 freedOrMoved (Answers (Moved k)) = true
+freedOrMoved (Answers (Quota q)) = false
 freedOrMoved (Refuses n r) = false
 
 -- Domain d has neither released nor recoloured in a history from s.

@@ -1,3 +1,4 @@
--- The statements over histories: the domain rule, and even use of colours.
+-- The statements over histories: the domain rule, even use of colours, and quotas.
 pub mod DomainRule
 pub mod EvenUse
+pub mod Quotas

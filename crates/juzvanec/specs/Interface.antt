@@ -2,4 +2,4 @@
 use Prim.Native.Nat.{ℕ}
 
 abbrev pub interfaceNumber : ℕ
-interfaceNumber = 5
+interfaceNumber = 6

@@ -24,7 +24,7 @@ pub extern "C" fn juzvanec_part(tasks: &[u32], vcpu: u32, start: &mut usize, len
 // those in which each was found.
 #[no_mangle]
 pub extern "C" fn juzvanec_admit_plan(
-    board: &[u32; 19],
+    board: &[u32; 27],
     reload: u32,
     vcpus: &[u32],
     tasks: &[u32],

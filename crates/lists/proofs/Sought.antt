@@ -1,14 +1,16 @@
--- Loops over a range: one that looks for the lowest number that passes a test, and one that asks whether any does. What each has still to
--- find is settled by the numbers from the one it has come to.
+-- Loops over a range: one that looks for the lowest number that passes a test, one that asks whether any does, and one that counts those that do. What
+-- each has still to find is settled by the numbers from the one it has come to.
 use Prim.Native.Nat.{ℕ, zero, suc, _+_, _-_, _<_, _≤_}
 use native.Mathlib.Nat.{le-refl, sub-zero}
 use native.Mathlib.Numerals.{add-one}
 use native.Mathlib.Omega.{arith}
 use mathlib.Core.Bool.{Bool, true, false, _||_}
 use mathlib.Core.Path.{_≡_, refl, sym, ap, _∙_}
-use Rattle.lists.specs.Range.{from, upto, any, lowestFrom}
+use lib.ListN.{length}
+use Rattle.lists.specs.Choice.{if_then_else_}
+use Rattle.lists.specs.Range.{from, upto, keep, any, lowestFrom}
 use Rattle.lists.proofs.Split.{cases}
-use Rattle.lists.proofs.Kept.{ahead, ahead-take, ahead-skip, ahead-end}
+use Rattle.lists.proofs.Kept.{ahead, ahead-start, ahead-take, ahead-skip, ahead-end}
 
 module _ (p : ℕ → Bool) where
   pub sought-hit : (i n : ℕ) → i < n → p i ≡ true → lowestFrom p i n ≡ i
@@ -79,3 +81,21 @@ module _ (p : ℕ → Bool) where
   pub asked-end : (n i : ℕ) (found : Bool) → n ≤ i → Asked n i found → found ≡ any p (upto n)
   asked-end n i true l e = sym e
   asked-end n i false l e = sym (e ∙ any-end i n l)
+
+  -- a loop that counts those of 0 .. n − 1 that pass has come to i: what it has counted, with those ahead
+  pub record Counting (n i count : ℕ) : Type 0 where
+    pub within : i ≤ n
+    pub few : count ≤ i
+    pub rest : length (keep p (upto n)) ≡ count + length (ahead p i n)
+
+  pub counting-start : (n : ℕ) → Counting n 0 0
+  counting-start n = record { within = omega arith; few = omega arith; rest = ap length (ahead-start p n) ∙ omega arith }
+
+  pub counting-next : {n i count : ℕ} → Counting n i count → i < n → Counting n (i + 1) (count + (if p i then 1 else 0))
+  counting-next {n} {i} {count} c l =
+      cases (p i)
+      (λ e. rw e (record { within = omega arith; few = omega (arith, c .few); rest = omega (arith, c .rest, ap length (ahead-take p i n l e)) }))
+      (λ e. rw e (record { within = omega arith; few = omega (arith, c .few); rest = omega (arith, c .rest, ap length (ahead-skip p i n l e)) }))
+
+  pub counting-end : {n i count : ℕ} → Counting n i count → n ≤ i → count ≡ length (keep p (upto n))
+  counting-end {n} {i} c l = omega (arith, c .rest, ap length (ahead-end p i n l))

@@ -1,4 +1,4 @@
--- The 19 words of a board: reading and writing undo each other, so the words that a call leaves stand for the board that it leaves, and
+-- The 27 words of a board: reading and writing undo each other, so the words that a call leaves stand for the board that it leaves, and
 -- a new active set is one new word.
 use Prim.Native.Nat.{ℕ, zero, suc, _+_, _<_, _≤_}
 use native.Mathlib.Nat.{zero-add, suc-add}
@@ -6,12 +6,12 @@ use native.Mathlib.Omega.{arith}
 use mathlib.Core.List.{List, [], _∷_, _++_}
 use mathlib.Core.Path.{_≡_, refl, sym, ap, _∙_}
 use lib.ListN.{length, getD, set, take, drop, length-append, length-set}
-use lib.Seq.{drop-cons, take-all, take-at, drop-at}
+use lib.Seq.{drop-cons, drop-drop, take-all, take-at, drop-at, set-append-left, set-out}
 use Rattle.lists.proofs.Split.{cases}
 use Rattle.refusal.specs.Reply.{Test, unless}
 use Rattle.board.specs.declared.Board.{Board}
 use Rattle.calls.specs.Table.{State}
-use Rattle.calls.specs.Calls.{Done, withActive, recolour, called, settle}
+use Rattle.calls.specs.Calls.{Done, withActive, withQuota, recolour, called, settle}
 use Rattle.marshal.specs.BoardWords.{wordsFrom, boardOf, boardWords, wordsAfter, wordsLeft, lent}
 
 taken : (ws : List ℕ) (n k : ℕ) → k + n ≤ length ws → take n (drop k ws) ≡ wordsFrom k n ws
@@ -31,31 +31,48 @@ word-at ws (suc n) k (suc i) h =
     word-at ws n (suc k) i (omega arith) ∙ ap (λ (j : ℕ). getD ws j 0) e
 
 -- a board that is written back where it was read changes nothing
-pub words-back : (ws : List ℕ) → length ws ≡ 19 → boardWords (boardOf ws) ≡ ws
+pub words-back : (ws : List ℕ) → length ws ≡ 27 → boardWords (boardOf ws) ≡ ws
 unfolding boardWords
-words-back ws e = whole ws 19 e
+words-back ws e = whole ws 27 e
 
 -- the words of a board stand for it
-pub board-back : (b : Board) → length (b .grants) ≡ 8 → length (b .active) ≡ 8 → boardOf (boardWords b) ≡ b
+pub board-back : (b : Board) → length (b .grants) ≡ 8 → length (b .active) ≡ 8 → length (b .quotas) ≡ 8 → boardOf (boardWords b) ≡ b
 unfolding boardWords
-board-back b g a =
-    let l : List ℕ = b .grants ++ b .active in
-    let n : length l ≡ 16 = simp length-append (omega arith) in
-    let grants : wordsFrom 0 8 l ≡ b .grants = sym (taken l 8 0 (omega arith)) ∙ take-at (b .grants) (b .active) 8 g in
+board-back b g a q =
+    let r : List ℕ = b .active ++ b .quotas in
+    let l : List ℕ = b .grants ++ r in
+    let m : length r ≡ 16 = simp length-append (omega arith) in
+    let n : length l ≡ 24 = simp length-append (omega arith) in
+    let after-grants : drop 8 l ≡ r = drop-at (b .grants) r 8 g in
+    let grants : wordsFrom 0 8 l ≡ b .grants = sym (taken l 8 0 (omega arith)) ∙ take-at (b .grants) r 8 g in
     let active : wordsFrom 8 8 l ≡ b .active =
-    sym (taken l 8 8 (omega arith)) ∙ ap (λ (m : List ℕ). take 8 m) (drop-at (b .grants) (b .active) 8 g) ∙ take-all 8 (b .active) (omega arith) in
-    λ j. record { colours = b .colours; frames = b .frames; domains = b .domains; grants = grants j; active = active j }
+    sym (taken l 8 8 (omega arith)) ∙ ap (λ (ws : List ℕ). take 8 ws) after-grants ∙ take-at (b .active) (b .quotas) 8 a in
+    let last : drop 16 l ≡ b .quotas = sym (drop-drop 8 8 l) ∙ ap (λ (ws : List ℕ). drop 8 ws) after-grants ∙ drop-at (b .active) (b .quotas) 8 a in
+    let quotas : wordsFrom 16 8 l ≡ b .quotas = sym (taken l 8 16 (omega arith)) ∙ ap (λ (ws : List ℕ). take 8 ws) last ∙ take-all 8 (b .quotas) (omega arith) in
+    λ j. record { colours = b .colours; frames = b .frames; domains = b .domains; grants = grants j; active = active j; quotas = quotas j }
 
 set-after : (xs ys : List ℕ) (i w : ℕ) → set (xs ++ ys) (length xs + i) w ≡ xs ++ set ys i w
 set-after [] ys i w = ap (λ (k : ℕ). set ys k w) (zero-add i)
 set-after (x ∷ xs) ys i w =
     ap (λ (k : ℕ). set (x ∷ (xs ++ ys)) k w) (suc-add (length xs) i) ∙ ap (λ (l : List ℕ). x ∷ l) (set-after xs ys i w)
 
--- a new active set is one new word
-pub one-word : (ws : List ℕ) (d c : ℕ) → length ws ≡ 19 → boardWords (withActive (boardOf ws) d c) ≡ set ws (11 + d) c
+-- a new active set is one new word, and so is a new quota; a domain past the eight has neither
+pub one-word : (ws : List ℕ) (d c : ℕ) → length ws ≡ 27 → d < 8 → boardWords (withActive (boardOf ws) d c) ≡ set ws (11 + d) c
 unfolding boardWords
-one-word ws d c e =
-    sym (set-after (wordsFrom 0 11 ws) (wordsFrom 11 8 ws) d c) ∙ ap (λ (l : List ℕ). set l (11 + d) c) (words-back ws e)
+one-word ws d c e low =
+    ap (λ (l : List ℕ). wordsFrom 0 11 ws ++ l) (sym (set-append-left (wordsFrom 11 8 ws) (wordsFrom 19 8 ws) d c low))
+    ∙ sym (set-after (wordsFrom 0 11 ws) (wordsFrom 11 8 ws ++ wordsFrom 19 8 ws) d c)
+    ∙ ap (λ (l : List ℕ). set l (11 + d) c) (words-back ws e)
+
+pub no-word : (ws : List ℕ) (d c : ℕ) → length ws ≡ 27 → 8 ≤ d → boardWords (withActive (boardOf ws) d c) ≡ ws
+unfolding boardWords
+no-word ws d c e high =
+    ap (λ (l : List ℕ). wordsFrom 0 11 ws ++ (l ++ wordsFrom 19 8 ws)) (set-out (wordsFrom 11 8 ws) d c high) ∙ words-back ws e
+
+pub quota-word : (ws : List ℕ) (d q : ℕ) → length ws ≡ 27 → boardWords (withQuota (boardOf ws) d q) ≡ set ws (19 + d) q
+unfolding boardWords
+quota-word ws d q e =
+    sym (set-after (wordsFrom 0 19 ws) (wordsFrom 19 8 ws) d q) ∙ ap (λ (l : List ℕ). set l (19 + d) q) (words-back ws e)
 
 -- where the words stand for the board before a call, those after it stand for the board after it
 settled :
@@ -75,7 +92,7 @@ unfolding recolour called
 words-stand ws table moves d c =
     let b : Board = withActive (boardOf ws) d c in
     let long : length (b .active) ≡ 8 = simp length-set in
-    settled (lent ws table) ws _ _ refl (board-back b refl long)
+    settled (lent ws table) ws _ _ refl (board-back b refl long refl)
 
 -- an accepted recolouring leaves a board with the new active set, so that one new word is all that there is to write
 left : (s : State) (ws : List ℕ) (ts : List Test) (done : Done)

@@ -1,4 +1,5 @@
--- The 19 words by which a caller in C lends a board: N, F, the domain count, eight grants and eight active sets; and those that a call leaves.
+-- The 27 words by which a caller in C lends a board: N, F, the domain count, eight grants, eight active sets and eight quotas; and those that a call
+-- leaves.
 use Prim.Native.Nat.{ℕ, zero, suc}
 use mathlib.Core.List.{List, [], _∷_, _++_}
 use lib.ListN.{getD}
@@ -20,10 +21,11 @@ boardOf words =
       domains = getD words 2 0;
       grants = wordsFrom 3 8 words;
       active = wordsFrom 11 8 words;
+      quotas = wordsFrom 19 8 words;
     }
 
 unfoldable pub boardWords : Board → List ℕ
-boardWords b = b .colours ∷ b .frames ∷ b .domains ∷ (b .grants ++ b .active)
+boardWords b = b .colours ∷ b .frames ∷ b .domains ∷ (b .grants ++ (b .active ++ b .quotas))
 
 -- the words that a call leaves: those of its board where it answers, and on a refusal the words as they were
 abbrev pub wordsAfter : Reply Answer → Board → List ℕ → List ℕ

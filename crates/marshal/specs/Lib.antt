@@ -1,3 +1,3 @@
--- The definitions of `marshal`: the board that 19 words stand for, and the numbers that a caller in C is told of a reply.
+-- The definitions of `marshal`: the board that 27 words stand for, and the numbers that a caller in C is told of a reply.
 pub mod BoardWords
 pub mod Replies

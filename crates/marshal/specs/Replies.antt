@@ -2,7 +2,7 @@
 use Prim.Native.Nat.{ℕ}
 use mathlib.Core.Path.{_≡_}
 use Rattle.refusal.specs.Reply.{Reply, Answers, Refuses}
-use Rattle.calls.specs.Calls.{Answer, Mapped, Unmapped, Old, New, Freed, Active, Moved}
+use Rattle.calls.specs.Calls.{Answer, Mapped, Unmapped, Old, New, Freed, Active, Moved, Quota}
 use Rattle.marshal.specs.declared.replies.Told.{Told}
 
 module _ {A : Type 0} where
@@ -23,7 +23,7 @@ module _ {A : Type 0} where
     pub number : told .number ≡ numberOf reply
     pub row : told .row ≡ rowOf reply
     pub value : told .value ≡ valueOf f reply
-    pub flag : told .flag ≡ valueOf g reply
+    pub second : told .second ≡ valueOf g reply
 
 -- an answer that is a number, and one that has none to tell
 abbrev pub itself : ℕ → ℕ
@@ -32,22 +32,24 @@ itself n = n
 abbrev pub nothing : {A : Type 0} → A → ℕ
 nothing a = 0
 
--- the frame, the set or the count of moves that a frame call answers; 0 for unmapped
+-- the frame, the set, the count of moves or the quota that a frame call answers; 0 for unmapped
 abbrev pub numberIn : Answer → ℕ
 numberIn (Mapped f) = f
 numberIn Unmapped = 0
 numberIn (Old f) = f
 numberIn (New f) = f
 numberIn (Freed f) = f
-numberIn (Active s) = s
+numberIn (Active s q) = s
 numberIn (Moved n) = n
+numberIn (Quota q) = q
 
--- what tells mapped from unmapped and new from old: 1 for a page that is mapped and for a frame that is new
-abbrev pub flagIn : Answer → ℕ
-flagIn (Mapped f) = 1
-flagIn Unmapped = 0
-flagIn (Old f) = 0
-flagIn (New f) = 1
-flagIn (Freed f) = 0
-flagIn (Active s) = 0
-flagIn (Moved n) = 0
+-- what tells mapped from unmapped and new from old: 1 for a page that is mapped and for a frame that is new; and beside the set the quota
+abbrev pub secondIn : Answer → ℕ
+secondIn (Mapped f) = 1
+secondIn Unmapped = 0
+secondIn (Old f) = 0
+secondIn (New f) = 1
+secondIn (Freed f) = 0
+secondIn (Active s q) = q
+secondIn (Moved n) = 0
+secondIn (Quota q) = 0

@@ -1,4 +1,4 @@
-// What a caller in C lends and is told: the board as 19 words, and an answer as four numbers. The crate
+// What a caller in C lends and is told: the board as 27 words, and an answer as four numbers. The crate
 // `juzvanec` exports document 01's operations through it. No function here requires anything of its caller.
 mod replies;
 mod words;
@@ -12,6 +12,7 @@ pub use replies::faulted;
 pub use replies::laid;
 pub use replies::looked;
 pub use replies::moved;
+pub use replies::quota_set;
 pub use replies::released;
 pub use words::board_of;
 pub use words::write_recoloured;

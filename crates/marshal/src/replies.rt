@@ -1,9 +1,9 @@
 // What a caller in C is told of an answer: four numbers for each case of it.
 ghost use mathlib.Core.Path.{_≡_};
 ghost use Rattle.colours.specs.Paper.{paperCount, paperLaid, paperBleached};
-ghost use Rattle.frames.specs.Paper.{paperLooked, paperFaulted, paperReleased, paperActive, paperMoved};
+ghost use Rattle.frames.specs.Paper.{paperLooked, paperFaulted, paperReleased, paperActive, paperMoved, paperQuota};
 ghost use Rattle.admission.specs.Paper.{paperAdmission};
-ghost use Rattle.marshal.specs.Replies.{Tells, itself, nothing, numberIn, flagIn};
+ghost use Rattle.marshal.specs.Replies.{Tells, itself, nothing, numberIn, secondIn};
 use admission::Admission;
 use colours::Bleached;
 use colours::ColourCount;
@@ -12,36 +12,37 @@ use frames::ActiveColours;
 use frames::Faulted;
 use frames::Looked;
 use frames::Moved;
+use frames::QuotaSet;
 use frames::Released;
 use refusal::Refusal;
 
-// The number and row of a refusal, 0 where a call answers, and the answer's number and flag, 0 on a refusal.
+// The number and row of a refusal, 0 where a call answers, and two numbers of the answer, 0 on a refusal.
 pub struct Told {
     pub number: u32,
     pub row: u32,
     pub value: u32,
-    pub flag: u32,
+    pub second: u32,
 }
 
-fn answered(value: u32, flag: u32) -> Told
-    ensures { λ r. ⌜ (r .number ≡ 0) × (r .row ≡ 0) × (r .value ≡ value) × (r .flag ≡ flag) ⌝ }
+fn answered(value: u32, second: u32) -> Told
+    ensures { λ r. ⌜ (r .number ≡ 0) × (r .row ≡ 0) × (r .value ≡ value) × (r .second ≡ second) ⌝ }
 {
     Told {
         number: 0,
         row: 0,
         value,
-        flag,
+        second,
     }
 }
 
 fn refused(refusal: Refusal) -> Told
-    ensures { λ r. ⌜ (r .number ≡ refusal .number) × (r .row ≡ refusal .row) × (r .value ≡ 0) × (r .flag ≡ 0) ⌝ }
+    ensures { λ r. ⌜ (r .number ≡ refusal .number) × (r .row ≡ refusal .row) × (r .value ≡ 0) × (r .second ≡ 0) ⌝ }
 {
     Told {
         number: refusal.number,
         row: refusal.row,
         value: 0,
-        flag: 0,
+        second: 0,
     }
 }
 
@@ -73,7 +74,7 @@ pub fn bleached(answer: Bleached) -> Told
 }
 
 pub fn looked(answer: Looked) -> Told
-    ensures { λ r. ⌜ Tells numberIn flagIn (paperLooked answer) r ⌝ }
+    ensures { λ r. ⌜ Tells numberIn secondIn (paperLooked answer) r ⌝ }
 {
     match answer {
         Looked::Mapped(frame) => answered(frame, 1),
@@ -83,7 +84,7 @@ pub fn looked(answer: Looked) -> Told
 }
 
 pub fn faulted(answer: Faulted) -> Told
-    ensures { λ r. ⌜ Tells numberIn flagIn (paperFaulted answer) r ⌝ }
+    ensures { λ r. ⌜ Tells numberIn secondIn (paperFaulted answer) r ⌝ }
 {
     match answer {
         Faulted::Old(frame) => answered(frame, 0),
@@ -93,7 +94,7 @@ pub fn faulted(answer: Faulted) -> Told
 }
 
 pub fn released(answer: Released) -> Told
-    ensures { λ r. ⌜ Tells numberIn flagIn (paperReleased answer) r ⌝ }
+    ensures { λ r. ⌜ Tells numberIn secondIn (paperReleased answer) r ⌝ }
 {
     match answer {
         Released::Freed(frame) => answered(frame, 0),
@@ -102,20 +103,29 @@ pub fn released(answer: Released) -> Told
 }
 
 pub fn active(answer: ActiveColours) -> Told
-    ensures { λ r. ⌜ Tells numberIn flagIn (paperActive answer) r ⌝ }
+    ensures { λ r. ⌜ Tells numberIn secondIn (paperActive answer) r ⌝ }
 {
     match answer {
-        ActiveColours::Set(set) => answered(set, 0),
+        ActiveColours::Set(set, quota) => answered(set, quota),
         ActiveColours::Refused(refusal) => refused(refusal),
     }
 }
 
 pub fn moved(answer: Moved) -> Told
-    ensures { λ r. ⌜ Tells numberIn flagIn (paperMoved answer) r ⌝ }
+    ensures { λ r. ⌜ Tells numberIn secondIn (paperMoved answer) r ⌝ }
 {
     match answer {
         Moved::Count(count) => answered(count, 0),
         Moved::Refused(refusal) => refused(refusal),
+    }
+}
+
+pub fn quota_set(answer: QuotaSet) -> Told
+    ensures { λ r. ⌜ Tells numberIn secondIn (paperQuota answer) r ⌝ }
+{
+    match answer {
+        QuotaSet::Quota(quota) => answered(quota, 0),
+        QuotaSet::Refused(refusal) => refused(refusal),
     }
 }
 

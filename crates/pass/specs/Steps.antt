@@ -1,12 +1,13 @@
 -- What the code works out on its way: how much of a table it reads, which word of a block matters, and what it knows at the start of one; and the
--- lanes of a table for a recolouring.
+-- counts of a table for a quota and for a recolouring.
 use Prim.Native.Nat.{ℕ, _+_, _%_, _≤_}
 use mathlib.Core.Bool.{Bool, _&&_, _||_}
 use mathlib.Core.List.{List}
 use mathlib.Core.Path.{_≡_}
 use lib.Dec.{eqb, ltb}
-use lib.ListN.{getD, take}
+use lib.ListN.{length, getD, take}
 use Rattle.lists.specs.Choice.{if_then_else_}
+use Rattle.lists.specs.Range.{upto, keep}
 use Rattle.kept.specs.Kept.{isOwn, zeros, countAll}
 use Rattle.pass.specs.declared.lanes.Surveyed.{Surveyed}
 
@@ -26,6 +27,10 @@ pub record AtBlock (taken filled : ℕ) : Type 0 where
   pub aligned : taken % 16 ≡ 0
   pub few : filled ≤ 16
   pub counted : taken + filled ≤ 4096
+
+-- how many words are those of the domain with this first word
+unfoldable pub ownIn : ℕ → List ℕ → ℕ
+ownIn first t = length (keep (λ (f : ℕ). isOwn first (getD t f 0)) (upto (length t)))
 
 -- by lane, the frames that the domain with this first word holds, and the free frames
 unfoldable pub surveyOf : ℕ → List ℕ → Surveyed

@@ -1,12 +1,12 @@
-// What a recolouring is judged by, counted by lane, that is by a frame's number modulo sixteen: the frames that
-// the domain holds, and the free ones.
+// Counts of the whole table: the frames that the domain holds, by which a quota is judged; and what a recolouring
+// is judged by, counted by lane, that is by a frame's number modulo sixteen: these frames, and the free ones.
 ghost use mathlib.Core.Path.{_≡_};
 ghost use Prim.Native.Nat.{_≤_};
 ghost use lib.Dec.{eqb};
 ghost use lib.ListN.{length};
 ghost use Rattle.lists.specs.Choice.{if_then_else_};
 ghost use Rattle.kept.specs.Kept.{isOwn, Within, countAll};
-ghost use Rattle.pass.specs.Steps.{read, atMost, surveyOf};
+ghost use Rattle.pass.specs.Steps.{read, atMost, ownIn, surveyOf};
 use crate::block::is_own;
 
 pub struct Surveyed {
@@ -42,6 +42,22 @@ fn count_in(words: &[u16], first: u16, held: &mut [u16; 16], free: &mut [u16; 16
         free[i] = free[i] + is_free(word);
         i += 1;
     }
+}
+
+// How many words of the table are the domain's, in 16 bits, as the words are, so that the compiler counts many at
+// once.
+pub fn count_own(table: &[u16], first: u16) -> u16
+    ensures { λ r. ⌜ r ≡ ownIn (atMost 61440 first) (read (now (table .entry))) ⌝ }
+{
+    let low = at_most(61440, first as usize) as u16;
+    let end = at_most(4096, table.len());
+    let mut count: u16 = 0;
+    let mut f: usize = 0;
+    while f < end {
+        count += is_own(table[f], low);
+        f += 1;
+    }
+    count
 }
 
 // The lanes of the whole table.

@@ -7,6 +7,7 @@ use lib.Dec.{ltb}
 use lib.ListN.{getD, replicate}
 use Rattle.lists.specs.Range.{from}
 use Rattle.board.specs.declared.Board.{Board}
+use Rattle.board.specs.Tests.{firstQuotas}
 
 -- word k of the input, its lowest byte first
 unfoldable pub word : List ℕ → ℕ → ℕ
@@ -40,7 +41,14 @@ grants input = words input 3 (domainCount input) ++ replicate (8 - domainCount i
 
 unfoldable pub boardOf : List ℕ → Board
 boardOf input =
-    record { colours = word input 0; frames = word input 1; domains = domainCount input; grants = grants input; active = grants input }
+    record {
+      colours = word input 0;
+      frames = word input 1;
+      domains = domainCount input;
+      grants = grants input;
+      active = grants input;
+      quotas = firstQuotas;
+    }
 
 unfoldable pub reloadOf : List ℕ → ℕ
 reloadOf input = word input (3 + domainCount input)

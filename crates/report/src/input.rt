@@ -8,6 +8,7 @@ ghost use Rattle.report.specs.Input.{word as wordOf, words as wordsOf, d
 use admission::Admission;
 use admission::admit_plan;
 use board::Board;
+use board::first_quotas;
 use rows::TASK_WORDS;
 use rows::VCPU_WORDS;
 
@@ -106,6 +107,7 @@ fn read_board(input: &[u8], domains: usize) -> Board
         domains: domains as u32,
         grants,
         active: grants,
+        quotas: first_quotas(),
     }
 }
 

@@ -1,4 +1,4 @@
-// Answers the separate tool's vectors of the frame table: scripts of the five calls. The input is the
+// Answers the separate tool's vectors of the frame table: scripts of the six calls. The input is the
 // words that `vectors_input` reads; output.rt writes the lines of each call. Tables, boards and move
 // lists are compared by a hash.
 use board::Board;
@@ -20,6 +20,20 @@ fn recolour(board: Board, table: &mut [u16], domain: u32, set: u32) -> Board {
     after
 }
 
+// The quota is set on a board by value, as set_quota sets it on a lent one.
+fn set_quota(board: Board, table: &[u16], domain: u32, quota: u32) -> Board {
+    let asked = frames::ask_quota(board, table, domain, quota);
+    let answer = asked.answer;
+    let quotas = asked.quotas;
+    let mut after = board;
+    after.quotas = quotas;
+    output::quota_set(answer);
+    output::table(table);
+    output::board(after);
+    vectors_input::text(b"\n");
+    after
+}
+
 // The calls that leave the board as it is.
 fn answer_on(board: Board, table: &mut [u16], operation: u32, domain: u32, page: u32) {
     match operation {
@@ -30,23 +44,26 @@ fn answer_on(board: Board, table: &mut [u16], operation: u32, domain: u32, page:
     }
 }
 
-// A call's words are the operation, the domain, a page or a set, and the length of the move list, which
-// every call has and a recolouring alone uses.
+// A call's words are the operation, the domain, a page, a set or a quota, and the length of the move list,
+// which every call has and a recolouring alone uses.
 fn answer(board: Board, table: &mut [u16]) -> Board {
     let operation = next_word();
     let domain = next_word();
     let argument = next_word();
-    if 3 < operation {
+    if operation == 4 {
         return recolour(board, table, domain, argument);
     }
     next_word();
+    if 4 < operation {
+        return set_quota(board, table, domain, argument);
+    }
     answer_on(board, table, operation, domain, argument);
     output::table(table);
     board
 }
 
 fn script() {
-    let mut board = vectors_input::next_board();
+    let mut board = vectors_input::next_whole_board();
     let mut room = [0u16; 4200];
     let table = vectors_input::next_table(&mut room);
     let mut left = next_word();

@@ -1,10 +1,11 @@
-// The lines of each call: its reply, the hash of the table, and after a recolouring those of the board,
-// the triples and the rest of the move list.
+// The lines of each call: its reply, the hash of the table, after a quota is set that of the board, and after a
+// recolouring those of the board, the triples and the rest of the move list.
 use board::Board;
 use frames::ActiveColours;
 use frames::Faulted;
 use frames::Looked;
 use frames::Moved;
+use frames::QuotaSet;
 use frames::Released;
 use vectors_input::hash_table;
 use vectors_input::hash_words;
@@ -37,8 +38,18 @@ pub fn released(answer: Released) {
 
 pub fn active(answer: ActiveColours) {
     match answer {
-        ActiveColours::Set(set) => line(b"active ", set),
+        ActiveColours::Set(set, quota) => {
+            part(b"active ", set as u64);
+            line(b" quota ", quota);
+        }
         ActiveColours::Refused(refusal) => refused(refusal),
+    }
+}
+
+pub fn quota_set(answer: QuotaSet) {
+    match answer {
+        QuotaSet::Quota(quota) => line(b"quota ", quota),
+        QuotaSet::Refused(refusal) => refused(refusal),
     }
 }
 
@@ -64,7 +75,9 @@ pub fn board(after: Board) {
     let numbers = [after.colours, after.frames, after.domains];
     let grants = after.grants;
     let active = after.active;
-    let hash = hash_words(hash_words(hash_words(0, &numbers), &grants), &active);
+    let quotas = after.quotas;
+    let sets = hash_words(hash_words(hash_words(0, &numbers), &grants), &active);
+    let hash = hash_words(sets, &quotas);
     part(b"board ", hash as u64);
 }
 

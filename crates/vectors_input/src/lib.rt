@@ -19,6 +19,7 @@ pub use words::next_board;
 pub use words::next_bytes;
 pub use words::next_list;
 pub use words::next_table;
+pub use words::next_whole_board;
 pub use words::next_word;
 pub use words::next_words;
 

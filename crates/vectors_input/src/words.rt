@@ -2,6 +2,7 @@
 ghost use Prim.Native.Nat.{_<_, _≤_};
 use crate::at_most;
 use board::Board;
+use board::first_quotas;
 
 fn pair(low: u8, high: u8) -> u32
     ensures { λ r. ⌜ r < 65536 ⌝ }
@@ -83,6 +84,7 @@ pub fn marked_table(room: &mut [u16]) -> &mut [u16] {
     &mut room[..count]
 }
 
+// A board of 19 words, with the quotas that it has at first.
 pub fn next_board() -> Board {
     let colours = next_word();
     let frames = next_word();
@@ -97,5 +99,15 @@ pub fn next_board() -> Board {
         domains,
         grants,
         active,
+        quotas: first_quotas(),
     }
+}
+
+// A board of 27 words, the last eight its quotas.
+pub fn next_whole_board() -> Board {
+    let mut board = next_board();
+    let mut quotas = [0u32; 8];
+    next_words(&mut quotas);
+    board.quotas = quotas;
+    board
 }

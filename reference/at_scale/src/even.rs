@@ -3,8 +3,8 @@
 //! or of a lane (the frame's number modulo 16), than eight bits count. Random scripts of releases, faults and
 //! recolourings go on crowded tables.
 
-use reference::boards::{accepted, crowded_table, part_of};
-use reference::frames::{word, Board, Call, State, DOMAINS, FREE, PAGES, RESERVED};
+use reference::boards::{accepted, crowded_table, limit, part_of};
+use reference::frames::{word, Board, Call, State, DOMAINS, FREE, PAGES, QUOTA, RESERVED};
 use reference::random::Random;
 
 use crate::frames::{any_call, any_frames, compare, recolour_to};
@@ -36,6 +36,7 @@ fn board(colours: u32, frames: usize, active: u32) -> Board {
         domains: 1,
         grants,
         active: grants,
+        quotas: [QUOTA; DOMAINS],
     };
     board.active[0] = active;
     board
@@ -138,12 +139,15 @@ pub fn script(random: &mut Random, tally: &mut Tally) {
     let n = random.pick(&[1, 2, 4, 4, 8, 8, 16]);
     let domains = 1 + random.below(n.min(3)) as u32;
     let frames = any_frames(random, n);
-    let board = accepted(random, n as u32, frames, domains);
+    let mut board = accepted(random, n as u32, frames, domains);
     let most = random.pick(&[1, 4, 30]);
     let pages: Vec<u32> = (0..=random.below(most))
         .map(|_| random.below(PAGES.into()) as u32)
         .collect();
     let table = crowded_table(random, &board, &pages);
+    if random.below(4) == 0 {
+        limit(random, &mut board, &table);
+    }
     let mut state = State { board, table };
     let crowd = random.below(n) as u32;
     for _ in 0..30 {

@@ -1,29 +1,21 @@
-//! Scripts of the five frame calls on sound and damaged boards and on all kinds of table content. After
-//! each call the reply, the table, the board and the move list are compared, word by word.
+//! Scripts of the frame calls on sound and damaged boards and on all kinds of table content. After each call
+//! the reply, the table, the board and the move list are compared, word by word, and where it is refused they
+//! are as before.
 
 use reference::boards::{
-    accepted, any_domain, any_page, any_set, any_word, empty_table, part_of, spoil,
+    accepted, any_domain, any_page, any_set, any_word, empty_table, limit, part_of, spoil,
+    NO_QUOTAS,
 };
 use reference::frames::{Answer, Board, Call, State, FREE, PAGES};
 use reference::random::Random;
 use reference::reply::Reply;
 
 use crate::interface::{self, Raw};
-use crate::lent::Lent;
+use crate::lent::{Lent, LentBoard};
+use crate::quotas;
 use crate::tally::{unlike, Tally};
 
 const GUARD: u16 = 0x5AA5;
-
-/// The model's board as it is lent.
-pub fn lent(board: &Board) -> juzvanec::Board {
-    juzvanec::Board {
-        colours: board.colours,
-        frames: board.frames,
-        domains: board.domains,
-        grants: board.grants,
-        active: board.active,
-    }
-}
 
 fn expected(reply: Reply<Answer>) -> Raw {
     let (number, row, values) = match reply {
@@ -36,8 +28,9 @@ fn expected(reply: Reply<Answer>) -> Raw {
                 Answer::Unmapped => [0, 0],
                 Answer::Old(frame) => [0, frame as u32],
                 Answer::Freed(frame) => [frame as u32, 0],
-                Answer::Active(set) => [set, 0],
+                Answer::Active { set, quota } => [set, quota],
                 Answer::Moved(count) => [count as u32, 0],
+                Answer::Quota(quota) => [quota, 0],
             },
         ),
     };
@@ -55,6 +48,7 @@ fn kind(call: &Call) -> &'static str {
         Call::Release { .. } => "release",
         Call::Colours { .. } => "colours",
         Call::Recolour { .. } => "recolour",
+        Call::SetQuota { .. } => "set quota",
     }
 }
 
@@ -66,29 +60,34 @@ fn run(call: &Call, board: &mut juzvanec::Board, table: &mut [u16], moves: &mut 
         Call::Release { domain, page } => interface::release(board, table, domain, page),
         Call::Colours { domain } => interface::colours(board, table, domain),
         Call::Recolour { domain, set, .. } => interface::recolour(board, table, domain, set, moves),
+        Call::SetQuota { domain, quota } => interface::set_quota(board, table, domain, quota),
     }
 }
 
 /// Runs the call on both sides and compares all that either leaves.
 pub fn compare(state: &mut State, call: &Call, tally: &mut Tally) {
     let before = state.clone();
-    let mut board = lent(&state.board);
+    let mut board = LentBoard::new(&state.board);
     let mut table = Lent::new(&state.table, GUARD);
     let list: Vec<u16> = (0..call.room())
         .map(|place| place as u16 ^ 0xC3C3)
         .collect();
     let mut moves = Lent::new(&list, GUARD);
-    let found = run(call, &mut board, table.list_mut(), moves.list_mut());
-    let mut list = list;
-    let model = expected(state.call(call, &mut list));
+    let found = run(call, &mut board.board, table.list_mut(), moves.list_mut());
+    let mut after = list.clone();
+    let reply = state.call(call, &mut after);
+    let model = expected(reply);
+    let is_refused = model.number != 0;
+    assert!(!is_refused || (&*state, &after) == (&before, &list));
     let differences = [
         unlike("reply", found, model),
-        unlike("board", board, lent(&state.board)),
+        board.difference(&state.board),
         table.difference("table", &state.table),
-        moves.difference("moves", &list),
+        moves.difference("moves", &after),
     ];
     let differences = differences.into_iter().flatten();
-    tally.count(kind(call), model.number, &(before, call), differences);
+    tally.count(kind(call), model.number, &(&before, call), differences);
+    quotas::count(&before, call, reply, tally);
 }
 
 /// A number of frames, seldom a large one.
@@ -110,19 +109,20 @@ fn any_board(random: &mut Random) -> Board {
     accepted(random, n as u32, frames, domains)
 }
 
-/// Puts faults of 2 to 7 into the board, one or several.
+/// Puts faults of 2 to 7 and 26 into the board, one or several.
 fn damage(random: &mut Random, board: &mut Board) {
     for _ in 0..1 + random.below(2) {
         let any = random.any_size() as u32;
         let domains = board.domains.clamp(1, 8);
         let row = random.below(domains.into()) as u32;
-        match random.below(8) {
+        match random.below(10) {
             0 => board.colours = random.pick(&[0, 3, 12, 17, 32, 1 << 16, u32::MAX, any]),
             1 => board.frames = random.pick(&[0, 4097, board.frames.wrapping_add(1), any]),
             2 => board.domains = random.pick(&[0, 9, 16, 256, 1 << 31, any]),
             3 if row + 1 < domains => spoil_6(random, board, domains, row),
             4 => board.grants[row as usize] = random.pick(&[0, any, 1 << 16, u32::MAX]),
             5 => board.active[row as usize] = random.pick(&[0, any, 1 << 31]),
+            6 | 7 => board.quotas[row as usize] = random.pick(&NO_QUOTAS),
             _ if (1..=16).contains(&board.colours) => {
                 let number = random.pick(&[5, 7]);
                 if board.grants[row as usize] != u32::MAX {
@@ -189,11 +189,12 @@ fn any_recolour(random: &mut Random, state: &State, domain: u32) -> Call {
 pub fn any_call(random: &mut Random, state: &State, pages: &[u32]) -> Call {
     let domain = any_domain(random, state.board.domains);
     let page = any_page(random, pages);
-    match random.below(16) {
+    match random.below(18) {
         0..=2 => Call::Look { domain, page },
         3..=8 => Call::Fault { domain, page },
         9..=11 => Call::Release { domain, page },
         12 => Call::Colours { domain },
+        13 | 14 => quotas::any_set_quota(random, state, domain),
         _ => any_recolour(random, state, domain),
     }
 }
@@ -204,6 +205,7 @@ pub fn script(random: &mut Random, tally: &mut Tally) {
     let mut pages = vec![0, PAGES - 1];
     pages.extend((0..2 + random.below(9)).map(|_| random.below(PAGES.into()) as u32));
     let mut table = any_table(random, &board, &pages);
+    limit(random, &mut board, &table);
     let mut calls = 20 + random.below(41);
     if random.below(3) == 0 {
         calls = 8;

@@ -105,8 +105,8 @@ pub fn release(board: &Board, table: &mut [u16], domain: u32, page: u32) -> Raw 
 }
 
 pub fn colours(board: &Board, table: &[u16], domain: u32) -> Raw {
-    let [mut set, mut row] = [RUBBISH; 2];
-    // SAFETY: board and table are valid for their lengths; two words of this function's own are lent.
+    let [mut set, mut quota, mut row] = [RUBBISH; 3];
+    // SAFETY: board and table are valid for their lengths; three words of this function's own are lent.
     let number = unsafe {
         raw::juzvanec_colours(
             board,
@@ -114,10 +114,29 @@ pub fn colours(board: &Board, table: &[u16], domain: u32) -> Raw {
             table.len(),
             domain,
             &mut set,
+            &mut quota,
             &mut row,
         )
     };
-    raw(number, row, &[set])
+    raw(number, row, &[set, quota])
+}
+
+pub fn set_quota(board: &mut Board, table: &[u16], domain: u32, quota: u32) -> Raw {
+    let [mut answer, mut row] = [RUBBISH; 2];
+    // SAFETY: board and table are valid for their lengths and lie apart; two words of this function's own
+    // are lent.
+    let number = unsafe {
+        raw::juzvanec_set_quota(
+            board,
+            table.as_ptr(),
+            table.len(),
+            domain,
+            quota,
+            &mut answer,
+            &mut row,
+        )
+    };
+    raw(number, row, &[answer])
 }
 
 pub fn recolour(

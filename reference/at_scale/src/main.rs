@@ -1,7 +1,7 @@
 //! The comparison at scale: the linked library, through its C interface, against the separate tool's own
-//! model, on faults at chosen lengths of the table, on tables of chosen shapes, on recolourings with pages in
-//! chosen orders, and then on random cases from a seed. The last line is `N cases, D differences`; it fails
-//! where D is not 0, or where a kind of reply never occurs.
+//! model, on quotas around what is held, on faults at chosen lengths of the table, on tables of chosen shapes, on
+//! recolourings with pages in chosen orders, and then on random cases from a seed. The last line is `N cases, D
+//! differences`; it fails where D is not 0, or where a kind of reply never occurs.
 
 mod even;
 mod frames;
@@ -12,6 +12,7 @@ mod lent;
 mod order;
 mod pages;
 mod plans;
+mod quotas;
 mod tally;
 
 use std::process::ExitCode;
@@ -90,12 +91,16 @@ fn main() -> ExitCode {
 fn compare(seed: u64, until: &Until) -> Tally {
     let mut random = Random::new(seed);
     let mut tally = Tally::default();
-    lengths::all(&mut tally);
-    tally.lengths = tally.cases;
+    quotas::all(&mut tally);
+    tally.around_held = tally.cases;
+    if !until.found(&tally) {
+        lengths::all(&mut tally);
+    }
+    tally.lengths = tally.cases - tally.around_held;
     if !until.found(&tally) {
         even::all(&mut tally);
     }
-    tally.shapes = tally.cases - tally.lengths;
+    tally.shapes = tally.cases - tally.around_held - tally.lengths;
     if !until.found(&tally) {
         order::all(&mut tally);
     }
@@ -113,6 +118,7 @@ fn compare(seed: u64, until: &Until) -> Tally {
             frames::script(&mut random, &mut tally);
             even::script(&mut random, &mut tally);
             order::script(&mut random, &mut tally);
+            quotas::script(&mut random, &mut tally);
         }
         plans::parts(&mut random, &mut tally);
         for _ in 0..10 {

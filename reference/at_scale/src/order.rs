@@ -3,8 +3,8 @@
 //! between; on long tables there are more moves than eight bits count. Random ones go on tables of few pages or
 //! of many.
 
-use reference::boards::{any_word, part_of};
-use reference::frames::{word, Board, Call, State, DOMAINS, FREE, PAGES, RESERVED};
+use reference::boards::{any_word, limit, part_of};
+use reference::frames::{word, Board, Call, State, DOMAINS, FREE, PAGES, QUOTA, RESERVED};
 use reference::random::Random;
 
 use crate::frames::{any_frames, compare, recolour_to};
@@ -56,6 +56,7 @@ fn board(colours: u32, frames: u32) -> Board {
         domains: 1,
         grants,
         active: grants,
+        quotas: [QUOTA; DOMAINS],
     }
 }
 
@@ -143,6 +144,9 @@ pub fn script(random: &mut Random, tally: &mut Tally) {
         })
         .collect();
     let mut state = State { board, table };
+    if random.below(3) == 0 {
+        limit(random, &mut state.board, &state.table);
+    }
     for set in [set, part_of(random, state.board.grants[0])] {
         let call = recolour_to(&state, 0, set);
         compare(&mut state, &call, tally);

@@ -1,5 +1,5 @@
 //! Plans, sound and damaged, and parts of task lists. Most periods are small, since the model tries every
-//! microsecond; a few plans have periods up to 1,000,000.
+//! microsecond; a few plans have periods up to 1,000,000. The boards have any numbers for quotas.
 
 use reference::boards::{accepted, part_of, spoil};
 use reference::cache::colours;
@@ -9,9 +9,9 @@ use reference::random::Random;
 use reference::random_plans::{admitted, spoil_row};
 use reference::reply::Reply;
 
-use crate::frames::lent;
 use crate::interface::{self, Raw};
-use crate::lent::Lent;
+use crate::lent::{Lent, LentBoard};
+use crate::quotas;
 use crate::tally::{unlike, Tally};
 
 const GUARD: u32 = 0x5AA5_C33C;
@@ -256,7 +256,7 @@ fn marked(length: usize, mark: u32) -> Vec<u32> {
 
 /// Admits the plan with lists of times and of rounds of those lengths.
 fn compare(plan: &Plan, room: [usize; 2], tally: &mut Tally) {
-    let board = lent(&plan.board);
+    let board = LentBoard::new(&plan.board);
     let vcpus = Lent::new(&plan.vcpus, GUARD);
     let tasks = Lent::new(&plan.tasks, GUARD);
     let times_before = marked(room[0], 0xC3C3_0000);
@@ -264,7 +264,7 @@ fn compare(plan: &Plan, room: [usize; 2], tally: &mut Tally) {
     let mut times = Lent::new(&times_before, GUARD);
     let mut rounds = Lent::new(&rounds_before, !GUARD);
     let found = interface::admit_plan(
-        &board,
+        &board.board,
         plan.reload,
         vcpus.list(),
         tasks.list(),
@@ -284,6 +284,7 @@ fn compare(plan: &Plan, room: [usize; 2], tally: &mut Tally) {
     };
     let differences = [
         unlike("reply", found, model),
+        board.difference(&plan.board),
         times.difference("times", &expected_times),
         rounds.difference("rounds", &expected_rounds),
         vcpus.difference("VCPUs", &plan.vcpus),
@@ -292,7 +293,10 @@ fn compare(plan: &Plan, room: [usize; 2], tally: &mut Tally) {
     let differences = differences.into_iter().flatten();
     tally.count("plan", number, &(plan, room), differences);
     match number {
-        0 => count_rounds(plan, &expected_rounds, tally),
+        0 => {
+            count_rounds(plan, &expected_rounds, tally);
+            quotas::count_admitted(&plan.board, tally);
+        }
         16 => count_short(plan, room, tally),
         _ => {}
     }
@@ -340,7 +344,7 @@ fn any_rooms(random: &mut Random, plan: &Plan) -> [usize; 2] {
 
 /// A plan that the tool's own generator admits, now and then, or one of those above.
 pub fn sound(random: &mut Random) -> Plan {
-    match random.below(3000) {
+    let mut plan = match random.below(3000) {
         0 => {
             let [vcpus, tasks] = [4, 8].map(|most| 1 + random.below(most) as usize);
             admitted(random, vcpus, tasks)
@@ -348,7 +352,9 @@ pub fn sound(random: &mut Random) -> Plan {
         1..=600 => nested_plan(random),
         601..=900 => climbing_plan(random),
         _ => any_plan(random),
-    }
+    };
+    plan.board.quotas = quotas::any(random);
+    plan
 }
 
 /// A plan, the same with faults put in, and the same with a row at fault as document 01 lists them.

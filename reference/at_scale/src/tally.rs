@@ -4,20 +4,24 @@
 use std::collections::BTreeMap;
 use std::fmt::Debug;
 
+use crate::quotas::Seen;
+
 const SHOWN: u64 = 5;
 
 /// The functions of the interface, with the refusals that each can give.
-pub const KINDS: [(&str, &[u32]); 12] = [
+pub const KINDS: [(&str, &[u32]); 13] = [
     ("interface", &[]),
     ("cache sizes", &[2]),
     ("layout", &[2, 9, 10]),
     ("bleaching", &[2, 9, 10, 11]),
-    ("look", &[2, 3, 4, 5, 6, 7, 8, 10]),
-    ("fault", &[2, 3, 4, 5, 6, 7, 8, 10, 12]),
-    ("release", &[2, 3, 4, 5, 6, 7, 8, 10, 14]),
-    ("colours", &[2, 3, 4, 5, 6, 7, 8]),
-    ("recolour", &[2, 3, 4, 5, 6, 7, 8, 9, 12, 13]),
+    ("look", &[2, 3, 4, 5, 6, 7, 26, 8, 10]),
+    ("fault", &[2, 3, 4, 5, 6, 7, 26, 8, 10, 28, 12]),
+    ("release", &[2, 3, 4, 5, 6, 7, 26, 8, 10, 14]),
+    ("colours", &[2, 3, 4, 5, 6, 7, 26, 8]),
+    ("set quota", &[2, 3, 4, 5, 6, 7, 26, 8, 27]),
+    ("recolour", &[2, 3, 4, 5, 6, 7, 26, 8, 9, 12, 13]),
     ("part", &[]),
+    // whatever the quotas, so that 26 never shows
     ("plan", &[2, 3, 4, 5, 6, 7, 15, 16, 17, 18, 19, 20, 21, 22]),
     (
         // a program's board has its grants active, so that 7 never shows
@@ -46,14 +50,16 @@ pub struct Short {
 #[derive(Default)]
 pub struct Tally {
     pub cases: u64,
-    /// The chosen ones among them, and of these the faults at chosen lengths of the table and the calls on tables
-    /// of chosen shapes.
+    /// The chosen ones among them, and of these the calls around what is held, the faults at chosen lengths of the
+    /// table and the calls on tables of chosen shapes.
     pub chosen: u64,
+    pub around_held: u64,
     pub lengths: u64,
     pub shapes: u64,
     pub differences: u64,
     pub rounds: Rounds,
     pub short: Short,
+    pub quotas: Seen,
     seen: BTreeMap<(&'static str, u32), u64>,
 }
 
@@ -101,7 +107,7 @@ impl Tally {
             missing += u32::from(self.of(kind, 0) == 0);
             println!("{line}");
         }
-        for number in 1..=22 {
+        for number in (1..=22).chain(26..=28) {
             let count: u64 = KINDS.iter().map(|(kind, _)| self.of(kind, number)).sum();
             println!("refusal {number}: {count} cases");
         }
@@ -116,14 +122,20 @@ impl Tally {
         println!(
             "{all} rounds for {found} times, {most} at most for one, {at_bound} at a bound above 2"
         );
-        let orders = self.chosen - self.lengths - self.shapes;
+        let quotas = self.quotas.counts();
+        let line = quotas.map(|(of, count)| format!("{of} {count}"));
+        println!("{}", line.join(", "));
+        let orders = self.chosen - self.around_held - self.lengths - self.shapes;
         println!(
-            "{} faults at chosen lengths of the table, {} calls on tables of chosen shapes, {orders} recolourings \
-             with pages in chosen orders",
-            self.lengths, self.shapes
+            "{} calls around what is held, {} faults at chosen lengths of the table, {} calls on tables of chosen \
+             shapes, {orders} recolourings with pages in chosen orders",
+            self.around_held, self.lengths, self.shapes
         );
-        for count in [times, rounds, at_bound, self.lengths, self.shapes, orders] {
-            missing += u32::from(count == 0);
+        let chosen = [self.around_held, self.lengths, self.shapes, orders];
+        let random = [times, rounds, at_bound];
+        let counts = quotas.map(|(_, count)| count);
+        for count in counts.iter().chain(&chosen).chain(&random) {
+            missing += u32::from(*count == 0);
         }
         if missing > 0 {
             println!("{missing} kinds of reply never occur");

@@ -16,6 +16,7 @@ RIGHT(look);
 RIGHT(fault);
 RIGHT(release);
 RIGHT(colours);
+RIGHT(set_quota);
 RIGHT(recolour);
 RIGHT(part);
 RIGHT(admit_plan);
@@ -111,6 +112,8 @@ uint32_t juzvanec_fault(const struct juzvanec_board *board, uint16_t *table, siz
 
     if (chooses())
         return choosing_fault(board, table, table_words, domain, page, is_new, frame, row);
+    if (spoils_quotas())
+        return quota_fault(board, table, table_words, domain, page, is_new, frame, row);
     if (board->frames == table_words && whole > 0 && wrong("fault-rest"))
         return fault_up_to(board, table, whole, domain, page, is_new, frame, row);
     number = right_fault(board, table, table_words, domain, page, is_new, frame, row);
@@ -148,13 +151,24 @@ uint32_t juzvanec_release(const struct juzvanec_board *board, uint16_t *table, s
 }
 
 uint32_t juzvanec_colours(const struct juzvanec_board *board, const uint16_t *table, size_t table_words,
-                          uint32_t domain, uint32_t *set, uint32_t *row)
+                          uint32_t domain, uint32_t *set, uint32_t *quota, uint32_t *row)
 {
-    uint32_t number = right_colours(board, table, table_words, domain, set, row);
+    uint32_t number;
 
+    if (spoils_quotas())
+        return quota_colours(board, table, table_words, domain, set, quota, row);
+    number = right_colours(board, table, table_words, domain, set, quota, row);
     if (!number && wrong("colours-grant"))
         *set = board->grants[domain];
     return number;
+}
+
+uint32_t juzvanec_set_quota(struct juzvanec_board *board, const uint16_t *table, size_t table_words,
+                            uint32_t domain, uint32_t quota, uint32_t *answer, uint32_t *row)
+{
+    if (spoils_quotas())
+        return quota_set_quota(board, table, table_words, domain, quota, answer, row);
+    return right_set_quota(board, table, table_words, domain, quota, answer, row);
 }
 
 uint32_t juzvanec_recolour(struct juzvanec_board *board, uint16_t *table, size_t table_words,
@@ -167,6 +181,8 @@ uint32_t juzvanec_recolour(struct juzvanec_board *board, uint16_t *table, size_t
         return choosing_recolour(board, table, table_words, domain, set, moves, move_words, count, row);
     if (orders())
         return ordering_recolour(board, table, table_words, domain, set, moves, move_words, count, row);
+    if (spoils_quotas())
+        return quota_recolour(board, table, table_words, domain, set, moves, move_words, count, row);
     number = right_recolour(board, table, table_words, domain, set, moves, move_words, count, row);
     if (number)
         return number;
@@ -296,10 +312,16 @@ uint32_t juzvanec_admit_plan(const struct juzvanec_board *board, uint32_t reload
     uint32_t kept[MOST_ROWS];
     /* 16 by the list of times alone: one of rounds that is too short gets as many as it holds */
     int no_test = rounds_words < rows && rows <= MOST_ROWS && wrong("rounds-room");
-    uint32_t number = right_admit_plan(board, reload, vcpus, vcpu_words, tasks, task_words, times,
-                                       times_words, no_test ? kept : rounds, no_test ? rows : rounds_words,
-                                       row);
+    uint32_t number, domain;
 
+    if (wrong("plan-quota") && board->domains <= JUZVANEC_MOST_DOMAINS)
+        for (domain = 0; domain < board->domains; domain++)
+            if (!is_quota(board->quotas[domain])) {
+                *row = 0;
+                return JUZVANEC_REFUSED_QUOTA;
+            }
+    number = right_admit_plan(board, reload, vcpus, vcpu_words, tasks, task_words, times, times_words,
+                              no_test ? kept : rounds, no_test ? rows : rounds_words, row);
     if (!number && no_test)
         memcpy(rounds, kept, rounds_words * sizeof *rounds);
     else

@@ -21,4 +21,12 @@ int orders(void);
 extern __typeof__(juzvanec_recolour) ordering_recolour;
 void put_in_order(uint16_t *moves, uint32_t count);
 
+/* Whether it is wrong in quotas, and the calls with these; whether a number is a quota. */
+int spoils_quotas(void);
+extern __typeof__(juzvanec_fault) quota_fault;
+extern __typeof__(juzvanec_colours) quota_colours;
+extern __typeof__(juzvanec_set_quota) quota_set_quota;
+extern __typeof__(juzvanec_recolour) quota_recolour;
+int is_quota(uint32_t quota);
+
 #endif

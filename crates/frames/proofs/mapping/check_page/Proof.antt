@@ -1,4 +1,4 @@
--- `frames::mapping::check_page` meets its contract: 10 is tested where 2 to 8 pass.
+-- `frames::mapping::check_page` meets its contract: 10 is tested where 2 to 8 and 26 pass.
 use mathlib.Core.Path.{_≡_, sym, ap, _∙_}
 use borrow.Author.Tests.{lt-ltb, le-ltb}
 use borrow.Author.Needs.{needs}

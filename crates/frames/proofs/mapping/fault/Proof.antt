@@ -1,19 +1,22 @@
 -- `frames::mapping::fault` meets its contract: the outcomes of the one pass, by the frame that is known in the end and the one that the lanes give.
 use Prim.Native.Nat.{ℕ, _-_, _<_, _≤_}
 use native.Mathlib.Omega.{arith}
-use mathlib.Core.Bool.{true}
+use mathlib.Core.Bool.{true, false}
 use mathlib.Core.List.{List}
 use mathlib.Core.Path.{_≡_, sym, ap, ap₂, _∙_}
+use lib.Dec.{leb}
 use lib.ListN.{length, set}
+use borrow.Author.Tests.{le-leb, lt-leb}
 use borrow.Author.Needs.{needs}
 use Rattle.refusal.specs.Reply.{Answers, passes}
 use Rattle.board.specs.Paper.{paperChecked}
 use Rattle.board.specs.Tests.{activeSet}
 use Rattle.board.proofs.Passed.{Accepted}
 use Rattle.kept.specs.declared.Kept.{Kept}
+use Rattle.kept.specs.Lanes.{sumLanes}
 use Rattle.calls.specs.Calls.{Old, New, fault, pageTests}
-use Rattle.calls.specs.OnePass.{frameBy, after, frameFor}
-use Rattle.calls.proofs.OnePass.{end-lanes, end-below, old-frame, new-frame, no-frame}
+use Rattle.calls.specs.OnePass.{frameBy, after, frameFor, atQuotaBy}
+use Rattle.calls.proofs.OnePass.{end-lanes, end-below, old-frame, full-quota, new-frame, no-frame}
 use Rattle.frames.specs.Steps.{pageReply}
 use Rattle.frames.proofs.Called.{told-by, page-refused, page-passes, page-accepted}
 use Rattle.frames.proofs.Passes.{kept-is, lanes-fit}
@@ -30,9 +33,12 @@ told c = c .before .before .before .before
 abbrev begun : tie.After-go-over → tie.Start
 begun c = entry (told c)
 
--- the pass is over, and the page has no frame
-abbrev unmapped : tie.After-active-set → tie.After-go-over
+-- the pass is over, and the page has no frame; then the domain is below its quota
+abbrev unmapped : tie.After-sum-all → tie.After-go-over
 unmapped c = c .before .before .before .before .before .before
+
+abbrev below : tie.After-active-set → tie.After-sum-all
+below c = c .before .before .before
 
 abbrev table : tie.Start → List ℕ
 table s = s .args .table .now
@@ -71,12 +77,20 @@ mapped-is c = ap (λ (k : Kept). k .mapped) (end-is c)
 mapped-below : (c : tie.After-go-over) → c .go-over .result .mapped ≤ length (table (begun c))
 mapped-below c = let s = begun c in omega (arith, mapped-is c, end-below (s .args .domain) (s .args .page) (table s))
 
+-- whether the domain is at its quota
+at-quota : (c : tie.After-sum-all) → let s = begun (unmapped c) in leb (c .before .quota-of .result) (c .sum-all .result) ≡ atQuotaBy (s .args .board) (s .args .domain) (end s)
+unfolding atQuotaBy
+at-quota c = ap₂ leb (c .before .quota-of .ensures) (c .sum-all .ensures ∙ ap (λ (k : Kept). sumLanes (λ (i : ℕ). true) (k .held)) (end-is (unmapped c)))
+
+below-quota : (c : tie.Else2) → let s = begun (unmapped (c .before)) in atQuotaBy (s .args .board) (s .args .domain) (end s) ≡ false
+below-quota c = sym (at-quota (c .before)) ∙ lt-leb _ _ (c .if2 .left)
+
 -- the frame to take
-frame-is : (c : tie.After-choose) → let s = begun (unmapped (c .before)) in c .choose .result ≡ frameFor (s .args .board) (s .args .domain) (end s)
+frame-is : (c : tie.After-choose) → let s = begun (unmapped (below (c .before))) in c .choose .result ≡ frameFor (s .args .board) (s .args .domain) (end s)
 unfolding frameFor
 frame-is c =
     let a = c .before in
-    let d = unmapped a in
+    let d = unmapped (below a) in
     let s = begun d in
     let n : ℕ = s .args .board .colours in
     let k : Kept = d .go-over .result in
@@ -111,11 +125,11 @@ word-for-requires-2 c κs = (low (c .before), omega arith)
 go-over-requires : tie.Need-go-over-requires
 go-over-requires c κs = search needs
 
-sub-t17 : tie.Need-sub-t17
-sub-t17 c = search needs
+sub-t18 : tie.Need-sub-t18
+sub-t18 c = search needs
 
-cast-t18 : tie.Need-cast-t18
-cast-t18 c = let d = c .before .before .before in omega (arith, mapped-below d, most (told d))
+cast-t19 : tie.Need-cast-t19
+cast-t19 c = let d = c .before .before .before in omega (arith, mapped-below d, most (told d))
 
 same-length : tie.Need-same-length
 same-length c = search needs
@@ -127,42 +141,47 @@ returns-2 c =
     let m = told-by _ _ (old-frame (s .args .board) (s .args .domain) (s .args .page) (table s) (fine d) (omega (arith, mapped-is d))) in
     (ap (λ (f : ℕ). Answers (Old (f - 1))) (mapped-is d) ∙ m .0, m .1)
 
-cast-choose : tie.Need-cast-choose
-cast-choose c = search needs
+cast-colours : tie.Need-cast-colours
+cast-colours c = search needs
 
-active-set-requires : tie.Need-active-set-requires
-active-set-requires c κs = search needs
+quota-of-requires : tie.Need-quota-of-requires
+quota-of-requires c κs = search needs
 
-choose-requires : tie.Need-choose-requires
-choose-requires c κs =
-    let d = unmapped c in
-    let s = begun d in
-    let ok = accepted (told d) .0 .passed .count in
-    let is = end-is d ∙ end-lanes (s .args .board) (s .args .domain) (s .args .page) (table s) (fine d) (omega (arith, mapped-is d)) in
-    (ok, most (told d), rw is (lanes-fit (table s) (s .args .domain) (most (told d)) (low (told d)) (s .args .board .colours) (c .active-set .result) ok))
+cast-if2 : tie.Need-cast-if2
+cast-if2 c = search needs
 
-mul-table : tie.Need-mul-table
-mul-table c = search needs
-
-slice-write-table : tie.Need-slice-write-table
-slice-write-table c = search needs
-
-cast-t23 : tie.Need-cast-t23
-cast-t23 c = omega (arith, most (told (unmapped (c .before .before))))
+sum-all-requires : tie.Need-sum-all-requires
+sum-all-requires c κs = accepted (told (c .before .before .before .before .before)) .0 .passed .count
 
 same-length-2 : tie.Need-same-length-2
 same-length-2 c = search needs
 
 returns-3 : tie.Need-returns-3
 returns-3 c =
-    let h = c .before in
-    let d = unmapped (h .before) in
+    let a = c .before in
+    let d = unmapped a in
     let s = begun d in
-    let l = accepted (told d) .0 .bounds .long in
-    let m = told-by _ _ (new-frame (s .args .board) (s .args .domain) (s .args .page) (table s) (fine d) (omega (arith, mapped-is d)) (omega (arith, frame-is h, l))) in (
-      ap (λ (f : ℕ). Answers (New f)) (frame-is h) ∙ m .0,
-      ap₂ (λ (f w : ℕ). set (table s) f w) (frame-is h) (d .before .before .before .word-for .ensures) ∙ m .1,
-    )
+    told-by _ _ (full-quota (s .args .board) (s .args .domain) (s .args .page) (table s) (fine d) (omega (arith, mapped-is d)) (sym (at-quota a) ∙ le-leb _ _ (c .if2 .taken)))
+
+active-set-requires : tie.Need-active-set-requires
+active-set-requires c κs = search needs
+
+choose-requires : tie.Need-choose-requires
+choose-requires c κs =
+    let d = unmapped (below c) in
+    let s = begun d in
+    let ok = accepted (told d) .0 .passed .count in
+    let is = end-is d ∙ end-lanes (s .args .board) (s .args .domain) (s .args .page) (table s) (fine d) (omega (arith, mapped-is d)) in
+    (ok, most (told d), rw is (lanes-fit (table s) (s .args .domain) (most (told d)) (low (told d)) (s .args .board .colours) (c .active-set .result) ok))
+
+mul-table : tie.Need-mul-table
+mul-table c = omega (arith, most (told (unmapped (below (c .before .before)))))
+
+slice-write-table : tie.Need-slice-write-table
+slice-write-table c = search needs
+
+cast-t25 : tie.Need-cast-t25
+cast-t25 c = omega (arith, most (told (unmapped (below (c .before .before)))))
 
 same-length-3 : tie.Need-same-length-3
 same-length-3 c = search needs
@@ -170,10 +189,26 @@ same-length-3 c = search needs
 returns-4 : tie.Need-returns-4
 returns-4 c =
     let h = c .before in
-    let d = unmapped (h .before) in
+    let b = below (h .before) in
+    let d = unmapped b in
     let s = begun d in
     let l = accepted (told d) .0 .bounds .long in
-    told-by _ _ (no-frame (s .args .board) (s .args .domain) (s .args .page) (table s) (fine d) (omega (arith, mapped-is d)) (omega (arith, frame-is h, l)))
+    let m = told-by _ _ (new-frame (s .args .board) (s .args .domain) (s .args .page) (table s) (fine d) (omega (arith, mapped-is d)) (below-quota (h .before .before .before)) (omega (arith, frame-is h, l))) in (
+      ap (λ (f : ℕ). Answers (New f)) (frame-is h) ∙ m .0,
+      ap₂ (λ (f w : ℕ). set (table s) f w) (frame-is h) (d .before .before .before .word-for .ensures) ∙ m .1,
+    )
+
+same-length-4 : tie.Need-same-length-4
+same-length-4 c = search needs
+
+returns-5 : tie.Need-returns-5
+returns-5 c =
+    let h = c .before in
+    let b = below (h .before) in
+    let d = unmapped b in
+    let s = begun d in
+    let l = accepted (told d) .0 .bounds .long in
+    told-by _ _ (no-frame (s .args .board) (s .args .domain) (s .args .page) (table s) (fine d) (omega (arith, mapped-is d)) (below-quota (h .before .before .before)) (omega (arith, frame-is h, l)))
 
 pub fault-spec : {M : Type 1} → statement M
 fault-spec =
@@ -186,17 +221,22 @@ fault-spec =
     word-for-requires
     word-for-requires-2
     go-over-requires
-    sub-t17
-    cast-t18
+    sub-t18
+    cast-t19
     same-length
     returns-2
-    cast-choose
+    cast-colours
+    quota-of-requires
+    cast-if2
+    sum-all-requires
+    same-length-2
+    returns-3
     active-set-requires
     choose-requires
     mul-table
     slice-write-table
-    cast-t23
-    same-length-2
-    returns-3
+    cast-t25
     same-length-3
-    returns-4)
+    returns-4
+    same-length-4
+    returns-5)

@@ -1,4 +1,4 @@
--- `frames::recolouring::check_set` meets its contract: 2 to 8, and then 9.
+-- `frames::recolouring::check_set` meets its contract: 2 to 8 and 26, and then 9.
 use Prim.Native.Nat.{ℕ}
 use mathlib.Core.Bool.{true, false, not}
 use mathlib.Core.List.{[], _∷_}
@@ -16,7 +16,7 @@ use Rattle.frames.specs.Steps.{setReply}
 use Rattle.frames.proofs.recolouring.check_set.Statement.{statement}
 use Rattle.frames.proofs.recolouring.check_set.Tie as tie
 
--- the places of the code: 2 to 8 passed; and the entry
+-- the places of the code: 2 to 8 and 26 passed; and the entry
 abbrev entry : tie.After-enum-told → tie.Start
 entry c = c .before .before .before
 

@@ -27,6 +27,9 @@ enum-told c = search needs
 active-set-requires : tie.Need-active-set-requires
 active-set-requires c κs = search needs
 
+quota-of-requires : tie.Need-quota-of-requires
+quota-of-requires c κs = search needs
+
 returns : tie.Need-returns
 unfolding colours
 returns c =
@@ -37,8 +40,8 @@ returns c =
 returns-2 : tie.Need-returns-2
 unfolding colours unless settle
 returns-2 c =
-    let a = c .before .before .before .before .before .args in
-    rw (c .active-set .ensures) (sym (ap (λ (o : Outcome). o .reply) (call-passed _ (a .domain) _ _ (ok (c .before)))))
+    let a = c .before .before .before .before .before .before .args in
+    rw (c .before .active-set .ensures, c .quota-of .ensures) (sym (ap (λ (o : Outcome). o .reply) (call-passed _ (a .domain) _ _ (ok (c .before .before)))))
 
 pub colours-spec : {M : Type 1} → statement M
 colours-spec =
@@ -48,5 +51,6 @@ colours-spec =
     enum-known-refusal
     enum-told
     active-set-requires
+    quota-of-requires
     returns
     returns-2)

@@ -3,7 +3,7 @@ use mathlib.Core.Path.{ap, _∙_}
 use Rattle.board.specs.declared.Board.{Board}
 use Rattle.calls.specs.Table.{stateOf}
 use Rattle.calls.specs.Calls.{Outcome, look as lookCall}
-use Rattle.marshal.specs.Replies.{numberIn, flagIn}
+use Rattle.marshal.specs.Replies.{numberIn, secondIn}
 use Rattle.marshal.proofs.Tellings.{told-same}
 use borrow.Author.Needs.{needs}
 use Rattle.juzvanec.proofs.table.juzvanec_look.Statement.{statement}
@@ -23,8 +23,8 @@ returns c =
     let a = c .before .before .before .before .args in
     let on : Board → Outcome = λ b. lookCall (stateOf b (a .table .now)) (a .domain) (a .page) in
     let reply = c .before .look .ensures ∙ ap (λ (b : Board). on b .reply) (c .before .before .board-of .ensures) in
-    let t = told-same numberIn flagIn (c .looked .ensures) reply in
-    (t .number, (t .flag, (t .value, t .row)))
+    let t = told-same numberIn secondIn (c .looked .ensures) reply in
+    (t .number, (t .second, (t .value, t .row)))
 
 pub juzvanec-look-spec : {M : Type 1} → statement M
 juzvanec-look-spec =

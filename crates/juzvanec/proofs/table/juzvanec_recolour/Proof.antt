@@ -5,7 +5,7 @@ use Rattle.board.specs.declared.Board.{Board}
 use Rattle.calls.specs.Table.{stateOf}
 use Rattle.calls.specs.Calls.{Answer, Outcome, withActive, recolour as recolourCall, listed}
 use Rattle.marshal.specs.BoardWords.{boardOf, wordsAfter}
-use Rattle.marshal.specs.Replies.{numberIn, flagIn}
+use Rattle.marshal.specs.Replies.{numberIn, secondIn}
 use Rattle.marshal.proofs.Lent.{words-left}
 use Rattle.marshal.proofs.Tellings.{told-same}
 use borrow.Author.Needs.{needs}
@@ -43,7 +43,7 @@ returns c =
     c .write-recoloured .ensures
     ∙ ap (λ (p : Reply Answer). wordsAfter p (withActive (boardOf (a .board .now)) (a .domain) (a .set)) (a .board .now)) reply
     ∙ words-left (a .board .now) (a .table .now) (a .moves .now) (a .domain) (a .set) in
-    let t = told-same numberIn flagIn (c .before .before .moved .ensures) reply in
+    let t = told-same numberIn secondIn (c .before .before .moved .ensures) reply in
     (t .number, (t .value, (t .row, (words, (table, list)))))
 
 pub juzvanec-recolour-spec : {M : Type 1} → statement M

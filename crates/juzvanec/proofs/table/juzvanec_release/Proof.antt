@@ -3,7 +3,7 @@ use mathlib.Core.Path.{ap, _∙_}
 use Rattle.board.specs.declared.Board.{Board}
 use Rattle.calls.specs.Table.{stateOf}
 use Rattle.calls.specs.Calls.{Outcome, release as releaseCall}
-use Rattle.marshal.specs.Replies.{numberIn, flagIn}
+use Rattle.marshal.specs.Replies.{numberIn, secondIn}
 use Rattle.marshal.proofs.Tellings.{told-same}
 use borrow.Author.Needs.{needs}
 use Rattle.juzvanec.proofs.table.juzvanec_release.Statement.{statement}
@@ -28,7 +28,7 @@ returns c =
     let same = c .before .before .before .before .before .board-of .ensures in
     let reply = c .before .before .before .release .ensures .0 ∙ ap (λ (b : Board). on b .reply) same in
     let table = c .before .before .before .release .ensures .1 ∙ ap (λ (b : Board). on b .next .table) same in
-    let t = told-same numberIn flagIn (c .released .ensures) reply in
+    let t = told-same numberIn secondIn (c .released .ensures) reply in
     (t .number, (t .value, (t .row, table)))
 
 pub juzvanec-release-spec : {M : Type 1} → statement M

@@ -1,17 +1,17 @@
 -- `marshal::replies::released` meets its contract, case by case.
 use mathlib.Core.Path.{ap}
 use Rattle.frames.specs.Paper.{paperReleased}
-use Rattle.marshal.specs.Replies.{numberIn, flagIn}
+use Rattle.marshal.specs.Replies.{numberIn, secondIn}
 use Rattle.marshal.proofs.Tellings.{tells-answer, tells-refusal}
 use borrow.Author.Needs.{needs}
 use Rattle.marshal.proofs.replies.released.Statement.{statement}
 use Rattle.marshal.proofs.replies.released.Tie as tie
 
 returns : tie.Need-returns
-returns c = tells-answer numberIn flagIn (ap paperReleased (c .before .before .answer .given .1)) (c .answered .ensures)
+returns c = tells-answer numberIn secondIn (ap paperReleased (c .before .before .answer .given .1)) (c .answered .ensures)
 
 returns-2 : tie.Need-returns-2
-returns-2 c = tells-refusal numberIn flagIn (ap paperReleased (c .before .before .answer2 .given .1)) (c .refused .ensures)
+returns-2 c = tells-refusal numberIn secondIn (ap paperReleased (c .before .before .answer2 .given .1)) (c .refused .ensures)
 
 pub released-spec : {M : Type 1} → statement M
 released-spec =

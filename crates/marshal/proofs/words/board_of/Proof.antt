@@ -21,14 +21,25 @@ eight-requires c κs = search needs
 eight-requires-2 : tie.Need-eight-requires-2
 eight-requires-2 c κs = search needs
 
+eight-requires-3 : tie.Need-eight-requires-3
+eight-requires-3 c κs = search needs
+
 returns : tie.Need-returns
 returns c =
-    let words : List ℕ = c .before .before .before .before .before .args .words .now in
-    let grants = c .before .eight .ensures in
-    let active = c .eight2 .ensures in
-    λ j. record { colours = getD words 0 0; frames = getD words 1 0; domains = getD words 2 0; grants = grants j; active = active j }
+    let words : List ℕ = c .before .before .before .before .before .before .args .words .now in
+    let grants = c .before .before .eight .ensures in
+    let active = c .before .eight2 .ensures in
+    let quotas = c .eight3 .ensures in
+    λ j. record {
+      colours = getD words 0 0;
+      frames = getD words 1 0;
+      domains = getD words 2 0;
+      grants = grants j;
+      active = active j;
+      quotas = quotas j;
+    }
 
 pub board-of-spec : {M : Type 1} → statement M
 board-of-spec =
     tie.close
-    (tie.spec element-copy-out-t4 element-copy-out-t7 element-copy-out-t10 eight-requires eight-requires-2 returns)
+    (tie.spec element-copy-out-t4 element-copy-out-t7 element-copy-out-t10 eight-requires eight-requires-2 eight-requires-3 returns)

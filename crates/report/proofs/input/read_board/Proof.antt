@@ -40,14 +40,24 @@ word-requires-2 c κs = search needs
 cast-t10 : tie.Need-cast-t10
 cast-t10 c = search needs
 
+first-quotas-requires : tie.Need-first-quotas-requires
+first-quotas-requires c κs = search needs
+
 returns : tie.Need-returns
 unfolding boardOf
 returns c =
-    let s = c .before .before .before .before .before .before .before in
-    let read = c .before .before .before .read-words in
-    let zeros = c .before .before .before .before .before .no-grants in
+    let s = c .before .before .before .before .before .before .before .before in
+    let read = c .before .before .before .before .read-words in
+    let zeros = c .before .before .before .before .before .before .no-grants in
     let g = grants-read (s .args .input .now) (s .args .domains) (s .pre .0) (read .last .1 .1 .0) (zeros .result) (s .pre .1) (zeros .ensures) (read .ensures) in
-    λ j. record { colours = c .before .word .ensures j; frames = c .word2 .ensures j; domains = s .pre .0 j; grants = g j; active = g j }
+    λ j. record {
+      colours = c .before .before .word .ensures j;
+      frames = c .before .word2 .ensures j;
+      domains = s .pre .0 j;
+      grants = g j;
+      active = g j;
+      quotas = c .first-quotas .ensures j;
+    }
 
 pub read-board-spec : {M : Type 1} → statement M
 read-board-spec =
@@ -60,4 +70,5 @@ read-board-spec =
     word-requires
     word-requires-2
     cast-t10
+    first-quotas-requires
     returns)
