@@ -1,12 +1,14 @@
 //! The board, the frame table and its calls: document 01, "Board and frame table", with refusals 2 to 14 of
 //! "Refusals in the order tested", and of document 02 the choice of a free frame of No. 7, the order of moves of
-//! No. 4 and the quotas of No. 6 with refusals 26 to 28. Each call is defined for every board, table and number.
+//! No. 4 and the quotas of No. 6 with refusals 26 to 28; taking back has a file of its own. Each call is defined for
+//! every board, table and number.
 
 use std::collections::VecDeque;
 use std::fmt;
 
 use crate::cache::{self, is_count};
 use crate::reply::Reply;
+use crate::take_back::take_back;
 
 pub const DOMAINS: usize = 8;
 pub const FRAMES: u32 = 4096;
@@ -63,12 +65,12 @@ pub fn word(domain: u32, page: u32) -> u64 {
 }
 
 /// The page for which the domain holds a frame with this word.
-fn page_held(domain: u32, held: u16) -> Option<u16> {
+pub fn page_held(domain: u32, held: u16) -> Option<u16> {
     let page = u64::from(held).checked_sub(word(domain, 0))?;
     (page < u64::from(PAGES)).then_some(page as u16)
 }
 
-fn has(set: u32, colour: u32) -> bool {
+pub fn has(set: u32, colour: u32) -> bool {
     set >> colour & 1 == 1
 }
 
@@ -113,7 +115,7 @@ pub fn no_quota(quota: u32) -> bool {
 
 /// Refusals 2 to 7, 26 and 8, with which each call begins. Admission does not test 26, so that it is not of
 /// `refused_board`.
-fn refused_caller(board: &Board, table: &[u16], domain: u32) -> Option<Reply<Answer>> {
+pub fn refused_caller(board: &Board, table: &[u16], domain: u32) -> Option<Reply<Answer>> {
     if let Some((number, row)) = refused_board(board, Some(table)) {
         return Some(Reply::Refused { number, row });
     }
@@ -294,15 +296,39 @@ pub fn set_quota(board: &mut Board, table: &[u16], domain: u32, quota: u32) -> R
     Reply::Answer(Answer::Quota(quota))
 }
 
-/// One of the calls with its arguments. `room` is the length of the lent move list.
-#[derive(Clone, Copy, Debug, PartialEq, Eq)]
+/// One of the calls with its arguments. `room` is the length of the move list that a recolouring is lent to write,
+/// and `list` what a taking back is lent to read.
+#[derive(Clone, Debug, PartialEq, Eq)]
 pub enum Call {
-    Look { domain: u32, page: u32 },
-    Fault { domain: u32, page: u32 },
-    Release { domain: u32, page: u32 },
-    Colours { domain: u32 },
-    Recolour { domain: u32, set: u32, room: usize },
-    SetQuota { domain: u32, quota: u32 },
+    Look {
+        domain: u32,
+        page: u32,
+    },
+    Fault {
+        domain: u32,
+        page: u32,
+    },
+    Release {
+        domain: u32,
+        page: u32,
+    },
+    Colours {
+        domain: u32,
+    },
+    Recolour {
+        domain: u32,
+        set: u32,
+        room: usize,
+    },
+    SetQuota {
+        domain: u32,
+        quota: u32,
+    },
+    TakeBack {
+        domain: u32,
+        set: u32,
+        list: Vec<u16>,
+    },
 }
 
 impl Call {
@@ -313,10 +339,12 @@ impl Call {
             | Call::Release { domain, .. }
             | Call::Colours { domain }
             | Call::Recolour { domain, .. }
-            | Call::SetQuota { domain, .. } => domain,
+            | Call::SetQuota { domain, .. }
+            | Call::TakeBack { domain, .. } => domain,
         }
     }
 
+    /// The length of the list that the call is lent to write.
     pub fn room(&self) -> usize {
         match *self {
             Call::Recolour { room, .. } => room,
@@ -333,7 +361,7 @@ pub struct State {
 }
 
 impl State {
-    /// The call's answer; `moves` is the move list it is lent.
+    /// The call's answer; `moves` is the move list that it is lent to write.
     pub fn call(&mut self, call: &Call, moves: &mut [u16]) -> Reply<Answer> {
         let State { board, table } = self;
         match *call {
@@ -343,6 +371,11 @@ impl State {
             Call::Colours { domain } => colours(board, table, domain),
             Call::Recolour { domain, set, .. } => recolour(board, table, domain, set, moves),
             Call::SetQuota { domain, quota } => set_quota(board, table, domain, quota),
+            Call::TakeBack {
+                domain,
+                set,
+                ref list,
+            } => take_back(board, table, domain, set, list),
         }
     }
 }

@@ -1,15 +1,18 @@
 //! The domain rule, run on random histories: document 01, "The words of demand 3", with the move list as it is
 //! written (document 02, No. 4) and the quota (No. 6). Two histories that leave a domain the same colours, quota and
 //! map, its own calls replayed alone, must give it the same answers and lists ever after, whatever the others do; two
-//! that do not are told apart by one call. No domain ever holds more frames than its quota. And what a planner relies
-//! on of document 02, No. 7: as long as a domain neither releases nor recolours, its frames lie evenly over its active
+//! that do not are told apart by one call. No domain ever holds more frames than its quota. A recolouring that is taken
+//! back, with only other domains' calls between, leaves the domain what it had (No. 10). And what a planner relies on
+//! of document 02, No. 7: as long as a domain neither releases nor moves frames, its frames lie evenly over its active
 //! colours, as far as these have free frames.
 
 use crate::boards::{accepted, any_domain, any_page, any_set, empty_table, part_of, NO_QUOTAS};
 use crate::cache::colours;
 use crate::frames::{
-    frames_held, no_quota, word, Answer, Board, Call, State, FREE, PAGES, QUOTA, RESERVED,
+    frames_held, no_quota, page_held, word, Answer, Board, Call, State, FREE, PAGES, QUOTA,
+    RESERVED,
 };
+use crate::lists::{any_take_back, shuffled, spoil};
 use crate::random::Random;
 use crate::reply::Reply;
 
@@ -48,6 +51,15 @@ pub struct Tally {
     pub full: u32,
     pub at_quota: u32,
     pub spoilt: u32,
+    /// Histories in which a taking back moves frames; in which one is refused 31; 32.
+    pub taking_back: u32,
+    pub bad_list: u32,
+    pub left_outside: u32,
+    /// Recolourings that were taken back after calls of others; those with moves; those among them with a table or
+    /// board that others changed meanwhile.
+    pub taken_back: u32,
+    pub moved_back: u32,
+    pub beside_others: u32,
     pub violations: u32,
 }
 
@@ -61,12 +73,18 @@ impl Tally {
             && self.unequal_by_quota > self.histories / 50
             && self.full > self.histories / 20
             && self.at_quota > tenth
-            && self.spoilt > self.histories / 50;
+            && self.spoilt > self.histories / 50
+            && self.taking_back > self.histories / 20
+            && self.bad_list > tenth
+            && self.left_outside > self.histories / 50
+            && self.taken_back > self.histories / 2
+            && self.moved_back > tenth
+            && self.beside_others > self.histories / 20;
         enough && self.violations == 0
     }
 
-    /// Counts what a history shows of quotas: the state after it, and what each call was answered.
-    fn count_quotas(&mut self, state: &State, answers: &[Answered]) {
+    /// Counts what a history shows of quotas and takings back: the state after it, and what each call was answered.
+    fn count_replies(&mut self, history: &[Call], state: &State, answers: &[Answered]) {
         let board = &state.board;
         let refused = |number| {
             let refusal = Reply::refused(number);
@@ -76,6 +94,13 @@ impl Tally {
         self.full += u32::from(refused(28));
         self.at_quota += u32::from((0..board.domains).any(at_quota));
         self.spoilt += u32::from(refused(26));
+        let moves_back = |(call, answered): (&Call, &Answered)| {
+            matches!(call, Call::TakeBack { .. })
+                && matches!(answered.reply, Reply::Answer(Answer::Moved(1..)))
+        };
+        self.taking_back += u32::from(history.iter().zip(answers).any(moves_back));
+        self.bad_list += u32::from(refused(31));
+        self.left_outside += u32::from(refused(32));
     }
 
     /// Counts a violation, and prints the first.
@@ -99,6 +124,16 @@ impl Tally {
             "28 in {} histories, a domain at its quota after {}; a board quota at fault in {}",
             self.full, self.at_quota, self.spoilt
         );
+        println!(
+            "frames moved back in {} histories, 31 in {}, 32 in {}; {} recolourings taken back, {} with moves, {} of \
+             these after changes by others",
+            self.taking_back,
+            self.bad_list,
+            self.left_outside,
+            self.taken_back,
+            self.moved_back,
+            self.beside_others
+        );
     }
 }
 
@@ -117,9 +152,12 @@ fn check_step(seed: u64, pairs: u32, step: Step) -> Tally {
         tally.histories += 2;
         for history in [&h, &k] {
             let (state, answers) = trial.run(&trial.start, history);
-            tally.count_quotas(&state, &answers);
+            tally.count_replies(history, &state, &answers);
             if !trial.kept(&state) {
                 tally.violation(|| format!("not kept: {:?} {history:?}", trial.start));
+            }
+            if !trial.restored(&mut random, &mut tally, &state) {
+                tally.violation(|| format!("not restored: {:?} {history:?}", trial.start));
             }
         }
         for domain in 0..trial.start.board.domains {
@@ -128,11 +166,14 @@ fn check_step(seed: u64, pairs: u32, step: Step) -> Tally {
         if !trial.others_quotas_unseen(&mut random, &h) {
             tally.violation(|| format!("quota calls of others: {:?} {h:?}", trial.start));
         }
+        if !trial.others_lists_unseen(&mut random, &h) {
+            tally.violation(|| format!("takings back of others: {:?} {h:?}", trial.start));
+        }
     }
     tally
 }
 
-/// How evenly the frames lie of domains that have neither released nor recoloured: a look after each call at
+/// How evenly the frames lie of domains that have neither released nor moved frames: a look after each call at
 /// each such domain.
 #[derive(Clone, Copy, Debug, Default)]
 pub struct Evenness {
@@ -229,9 +270,20 @@ fn active_set(answered: &Answered) -> Option<u32> {
     }
 }
 
+/// The frame that look gives for each page.
+fn map(table: &[u16], domain: u32) -> Vec<Option<usize>> {
+    let mut frames = vec![None; PAGES as usize];
+    for (frame, held) in table.iter().enumerate().rev() {
+        if let Some(page) = page_held(domain, *held) {
+            frames[usize::from(page)] = Some(frame);
+        }
+    }
+    frames
+}
+
 fn own(history: &[Call], domain: u32) -> Vec<Call> {
     let named = history.iter().filter(|call| call.domain() == domain);
-    named.copied().collect()
+    named.cloned().collect()
 }
 
 /// Gives the board quotas, many of them low, and now and then one that 26 refuses; the fields of domains beyond the
@@ -360,14 +412,21 @@ impl Trial {
     /// Whether two later lists with the same own calls, and others' calls drawn for each apart, give the
     /// domain the same answers.
     fn same_later(&self, random: &mut Random, domain: u32, h: &State, k: &State) -> bool {
-        let calls = (0..1 + random.below(8)).map(|_| self.call_of(random, domain));
-        let mut calls: Vec<Call> = calls.collect();
-        // at the end one that lists several moves, which is rare among the others
+        let mut drawn = Drawn::new(self, h);
+        for _ in 0..1 + random.below(8) {
+            drawn.add_of(random, domain);
+        }
+        // at the end one that lists several moves, which is rare among the others, and it may be taken back
         let set = part_of(random, self.start.board.grants[domain as usize]);
         let room = 60;
-        calls.push(Call::Recolour { domain, set, room });
-        let l = self.woven(random, domain, &calls);
-        let m = self.woven(random, domain, &calls);
+        drawn.add(Call::Recolour { domain, set, room });
+        if random.below(2) == 0 {
+            let call = drawn.take_back(random, domain);
+            drawn.add(call);
+        }
+        let calls = drawn.calls;
+        let l = self.woven(random, h, domain, &calls);
+        let m = self.woven(random, k, domain, &calls);
         let kept = [(h, &l), (k, &m)]
             .into_iter()
             .all(|(from, later)| self.kept(&self.run(from, later).0));
@@ -388,6 +447,67 @@ impl Trial {
             let (later, _) = self.run(&after, &[call]);
             self.answers(&later, &probes, domain) == seen
         })
+    }
+
+    /// Whether no taking back of another domain after the history changes what a domain sees, whatever its list.
+    fn others_lists_unseen(&self, random: &mut Random, history: &[Call]) -> bool {
+        let (after, _) = self.run(&self.start, history);
+        let domain = random.below(self.start.board.domains.into()) as u32;
+        let probes = self.probes(random, domain, history);
+        let seen = self.answers(&after, &probes, domain);
+        (0..8).all(|_| {
+            let other = self.other_domain(random, domain);
+            let call = any_take_back(random, &after, other);
+            let (later, _) = self.run(&after, &[call]);
+            self.kept(&later) && self.answers(&later, &probes, domain) == seen
+        })
+    }
+
+    /// Document 02, No. 10: "In a history from an empty table, after an accepted recolouring with only other domains'
+    /// calls between, it restores the domain's map and set", and answers the recolouring's count. Given is the state
+    /// before the recolouring. Where this is refused, nothing is to be taken back.
+    fn restored(&self, random: &mut Random, tally: &mut Tally, before: &State) -> bool {
+        let domain = random.below(before.board.domains.into()) as u32;
+        let here = domain as usize;
+        let room = 3 * before.table.len();
+        // of some recolourings one that moves frames, if there is one
+        let mut recoloured = (0..4).map(|_| {
+            let set = part_of(random, before.board.grants[here]);
+            let mut state = before.clone();
+            let told = (self.step)(&mut state, &Call::Recolour { domain, set, room });
+            (state, told)
+        });
+        let first = recoloured.next().expect("there are some");
+        let moves =
+            |(_, told): &(State, Answered)| matches!(told.reply, Reply::Answer(Answer::Moved(1..)));
+        let (state, told) = match moves(&first) {
+            true => first,
+            false => recoloured.find(moves).unwrap_or(first),
+        };
+        let Reply::Answer(Answer::Moved(count)) = told.reply else {
+            return true;
+        };
+        let mut drawn = Drawn::new(self, &state);
+        for _ in 0..random.below(10) {
+            let other = self.other_domain(random, domain);
+            drawn.add_of(random, other);
+        }
+        let changed = drawn.state != state;
+        tally.taken_back += 1;
+        tally.moved_back += u32::from(count > 0);
+        tally.beside_others += u32::from(count > 0 && changed);
+        let set = before.board.active[here];
+        let mut list = told.list[..3 * count].to_vec();
+        if random.below(3) == 0 {
+            list = shuffled(random, &list);
+        }
+        let mut after = drawn.state;
+        let told = (self.step)(&mut after, &Call::TakeBack { domain, set, list });
+        let fields = |state: &State| [state.board.active, state.board.quotas].map(|f| f[here]);
+        told.reply == Reply::Answer(Answer::Moved(count))
+            && fields(&after) == fields(before)
+            && map(&after.table, domain) == map(&before.table, domain)
+            && self.kept(&after)
     }
 
     /// Whether no domain holds more frames than its quota. Where 26 refuses the board, nothing changes at all.
@@ -451,11 +571,6 @@ impl Trial {
         }
     }
 
-    fn any_call(&self, random: &mut Random) -> Call {
-        let domain = any_domain(random, self.start.board.domains);
-        self.call_of(random, domain)
-    }
-
     /// Any other number.
     fn other_domain(&self, random: &mut Random, domain: u32) -> u32 {
         match any_domain(random, self.start.board.domains) {
@@ -464,53 +579,61 @@ impl Trial {
         }
     }
 
-    /// A call that names any other number.
-    fn other_call(&self, random: &mut Random, domain: u32) -> Call {
-        let other = self.other_domain(random, domain);
-        self.call_of(random, other)
-    }
-
     fn history(&self, random: &mut Random) -> Vec<Call> {
         let each = 4 + self.pages.len() as u64;
-        let length = random.below(4 + each * u64::from(self.start.board.domains));
-        (0..length).map(|_| self.any_call(random)).collect()
+        let domains = self.start.board.domains;
+        let length = random.below(4 + each * u64::from(domains));
+        let mut drawn = Drawn::new(self, &self.start);
+        for _ in 0..length {
+            let domain = any_domain(random, domains);
+            drawn.add_of(random, domain);
+        }
+        drawn.calls
     }
 
-    /// Faults of pages that are seldom mapped, and any calls of one domain, perhaps; the others' releases and
-    /// recolourings are refused as a rule.
+    /// Faults of pages that are seldom mapped, and any calls of one domain, perhaps; the others' releases,
+    /// recolourings and takings back are refused as a rule.
     fn filling(&self, random: &mut Random) -> Vec<Call> {
         let domains = self.start.board.domains;
         let other = random.below(2 * u64::from(domains)) as u32;
         let length = random.below(3 * u64::from(self.start.board.frames) + 8);
-        let mut calls = Vec::new();
+        let mut drawn = Drawn::new(self, &self.start);
         for _ in 0..length {
             let domain = any_domain(random, domains);
+            if domain == other {
+                drawn.add_of(random, domain);
+                continue;
+            }
             let page = random.below(PAGES.into()) as u32;
             let grant = self.start.board.grants.get(domain as usize).unwrap_or(&1);
             let part = part_of(random, *grant);
             let set = random.pick(&[0, part, part | 1 << 16]);
             let room = 0;
-            calls.push(match random.below(12) {
-                _ if domain == other => self.call_of(random, domain),
+            let list = vec![page as u16];
+            drawn.add(match random.below(12) {
                 0 => Call::Release { domain, page },
+                1 if random.below(2) == 0 => Call::TakeBack { domain, set, list },
                 1 => Call::Recolour { domain, set, room },
                 2 => Call::Look { domain, page },
                 _ => Call::Fault { domain, page },
             });
         }
-        calls
+        drawn.calls
     }
 
     /// The own calls in their order, with new calls of the others anywhere among them.
-    fn woven(&self, random: &mut Random, domain: u32, calls: &[Call]) -> Vec<Call> {
-        let mut all = Vec::new();
+    fn woven(&self, random: &mut Random, from: &State, domain: u32, calls: &[Call]) -> Vec<Call> {
+        let mut drawn = Drawn::new(self, from);
         for place in 0..=calls.len() {
             while random.below(2) == 0 {
-                all.push(self.other_call(random, domain));
+                let other = self.other_domain(random, domain);
+                drawn.add_of(random, other);
             }
-            all.extend(calls.get(place));
+            if let Some(call) = calls.get(place) {
+                drawn.add(call.clone());
+            }
         }
-        all
+        drawn.calls
     }
 
     /// Another history made from this one, so that for some domain both often come to the same.
@@ -518,14 +641,18 @@ impl Trial {
         let domain = random.below(self.start.board.domains.into()) as u32;
         let mut calls = own(history, domain);
         let place = random.below(calls.len() as u64 + 1) as usize;
-        match random.below(9) {
+        let mut drawn = Drawn::new(self, &self.start);
+        for call in &calls[..place] {
+            drawn.add(call.clone());
+        }
+        match random.below(10) {
             0 => return self.history(random),
             1 => {
                 // the others' calls of this history, in other places and some left out
                 let mut all: Vec<Call> = history
                     .iter()
                     .filter(|call| call.domain() == domain || random.below(3) > 0)
-                    .copied()
+                    .cloned()
                     .collect();
                 random.shuffle(&mut all);
                 let places = all.iter_mut().filter(|call| call.domain() == domain);
@@ -534,11 +661,11 @@ impl Trial {
                 }
                 return all;
             }
-            2 => calls.insert(place, self.call_of(random, domain)),
+            2 => calls.insert(place, drawn.call_of(random, domain)),
             3 if place < calls.len() => {
                 calls.remove(place);
             }
-            4 if place < calls.len() => calls[place] = self.call_of(random, domain),
+            4 if place < calls.len() => calls[place] = drawn.call_of(random, domain),
             5 if place + 1 < calls.len() => calls.swap(place, place + 1),
             6 => {
                 let page = random.pick(&self.pages);
@@ -547,15 +674,105 @@ impl Trial {
             }
             7 => {
                 // another quota for a while
-                let (state, _) = self.run(&self.start, &calls[..place]);
-                let before = state.board.quotas[domain as usize];
+                let before = drawn.state.board.quotas[domain as usize];
                 let set = [asked_quota(random), before];
                 let set = set.map(|quota| Call::SetQuota { domain, quota });
                 calls.splice(place..place, set);
             }
+            8 => {
+                // another set for a while
+                let set = part_of(random, self.start.board.grants[domain as usize]);
+                let room = 3 * self.start.table.len();
+                drawn.add(Call::Recolour { domain, set, room });
+                if let Some(Done { former, list, .. }) = drawn.done.pop() {
+                    let (set, list) = (former, list.clone());
+                    drawn.add(Call::TakeBack { domain, set, list });
+                }
+                calls.splice(place..place, drawn.calls.drain(place..));
+            }
             _ => {}
         }
-        self.woven(random, domain, &calls)
+        self.woven(random, &self.start, domain, &calls)
+    }
+}
+
+/// A recolouring that was accepted: the set before it, and the triples that it wrote.
+struct Done {
+    domain: u32,
+    former: u32,
+    list: Vec<u16>,
+}
+
+/// Calls that run while they are drawn, so that a domain can take back what it has done.
+struct Drawn<'a> {
+    trial: &'a Trial,
+    state: State,
+    done: Vec<Done>,
+    calls: Vec<Call>,
+}
+
+impl<'a> Drawn<'a> {
+    fn new(trial: &'a Trial, from: &State) -> Self {
+        Drawn {
+            trial,
+            state: from.clone(),
+            done: Vec::new(),
+            calls: Vec::new(),
+        }
+    }
+
+    fn add(&mut self, call: Call) {
+        let active = self.state.board.active;
+        let told = (self.trial.step)(&mut self.state, &call);
+        if let (&Call::Recolour { domain, .. }, Reply::Answer(Answer::Moved(count))) =
+            (&call, told.reply)
+        {
+            self.done.push(Done {
+                domain,
+                former: active[domain as usize],
+                list: told.list[..3 * count].to_vec(),
+            });
+        }
+        self.calls.push(call);
+    }
+
+    /// Any call of a domain.
+    fn add_of(&mut self, random: &mut Random, domain: u32) {
+        let call = self.call_of(random, domain);
+        self.add(call);
+    }
+
+    fn call_of(&self, random: &mut Random, domain: u32) -> Call {
+        match random.below(8) {
+            0 => self.take_back(random, domain),
+            _ => self.trial.call_of(random, domain),
+        }
+    }
+
+    /// A taking back of the domain's last recolouring as a rule, at times of one before it, with another set, with a
+    /// list that is not right, or of moves that were none.
+    fn take_back(&self, random: &mut Random, domain: u32) -> Call {
+        let own: Vec<&Done> = self
+            .done
+            .iter()
+            .filter(|done| done.domain == domain)
+            .collect();
+        let Some(last) = own.last().filter(|_| random.below(6) > 0) else {
+            return any_take_back(random, &self.state, domain);
+        };
+        let way = random.below(8);
+        let Done { former, list, .. } = match way {
+            0 => random.pick(&own),
+            _ => last,
+        };
+        let (mut set, mut list) = (*former, list.clone());
+        match way {
+            1 => set = any_set(random, self.trial.start.board.grants[domain as usize]),
+            2 | 3 => spoil(random, &self.state, domain, set, &mut list),
+            4 => list = shuffled(random, &list),
+            _ => {}
+        }
+        Call::TakeBack { domain, set, list }
     }
 }
 
@@ -566,6 +783,7 @@ mod tests {
         below_held, faults_by, first_told, next_too, of_all_domains, only_above, quotas_by,
     };
     use crate::readings::{self, all_words, in_turn, lowest_first, most_free, most_held, Reading};
+    use crate::taking_back::{self, Wrong};
 
     #[test]
     fn the_rule_holds_of_the_model() {
@@ -632,8 +850,8 @@ mod tests {
     fn places_by_all_domains(state: &mut State, call: &Call) -> Answered {
         let before = state.table.clone();
         let mut told = step(state, call);
-        if let (Reply::Answer(Answer::Moved(count)), Call::Recolour { set, .. }) =
-            (told.reply, *call)
+        if let (Reply::Answer(Answer::Moved(count)), &Call::Recolour { set, .. }) =
+            (told.reply, call)
         {
             let outside = |frame: usize| set >> (frame as u32 % state.board.colours) & 1 == 0;
             let held = (0..before.len())
@@ -720,6 +938,78 @@ mod tests {
 
     fn quotas_by_all_domains(state: &mut State, call: &Call) -> Answered {
         answered(call, |list| quotas_by(state, call, list, of_all_domains))
+    }
+
+    /// A loader that tells each domain how many frames are free, as the row of refusals 31 and 32.
+    fn tells_free_frames_of_lists(state: &mut State, call: &Call) -> Answered {
+        let mut answered = step(state, call);
+        if let Reply::Refused {
+            number: 31 | 32,
+            row,
+        } = &mut answered.reply
+        {
+            *row = state.table.iter().filter(|word| **word == FREE).count() as u32;
+        }
+        answered
+    }
+
+    /// A loader that takes nothing back where another domain holds a frame of a lower number than any that goes back.
+    fn takes_back_undisturbed(state: &mut State, call: &Call) -> Answered {
+        if let Call::TakeBack { domain, list, .. } = call {
+            let lowest = list.chunks_exact(3).map(|triple| triple[1]).min();
+            let below = &state.table[..usize::from(lowest.unwrap_or(0)).min(state.table.len())];
+            let held = |word: &u16| ![FREE, RESERVED].contains(word);
+            let own = |word: &u16| page_held(*domain, *word).is_some();
+            if below.iter().any(|word| held(word) && !own(word)) {
+                return Answered {
+                    reply: Reply::refused(31),
+                    list: Vec::new(),
+                };
+            }
+        }
+        step(state, call)
+    }
+
+    /// Loaders that read document 02, No. 10, otherwise.
+    fn reads<const PLACE: usize>(state: &mut State, call: &Call) -> Answered {
+        let wrong = READINGS[PLACE];
+        answered(call, |list| taking_back::call(state, call, list, wrong))
+    }
+
+    const READINGS: [Wrong; 11] = [
+        Wrong::StraysBefore,
+        Wrong::StraysOfAll,
+        Wrong::WordsCounted,
+        Wrong::SetKept,
+        Wrong::NotMoved,
+        Wrong::NewKept,
+        Wrong::NextDomainsSet,
+        // it takes lists of several triples, or words of others, to see these
+        Wrong::AnyPage,
+        Wrong::NewOfAnybody,
+        Wrong::OldReserved,
+        Wrong::OrderDemanded,
+    ];
+
+    #[test]
+    fn wrong_takings_back_are_found() {
+        let often: [Step; 9] = [
+            reads::<0>,
+            reads::<1>,
+            reads::<2>,
+            reads::<3>,
+            reads::<4>,
+            reads::<5>,
+            reads::<6>,
+            tells_free_frames_of_lists,
+            takes_back_undisturbed,
+        ];
+        let seldom: [Step; 4] = [reads::<7>, reads::<8>, reads::<9>, reads::<10>];
+        let loaders = often.into_iter().map(|wrong| (wrong, 400));
+        for (wrong, pairs) in loaders.chain(seldom.map(|wrong| (wrong, 4000))) {
+            let tally = check_step(crate::SEED, pairs, wrong);
+            assert!(tally.violations > 20, "{tally:?}");
+        }
     }
 
     #[test]

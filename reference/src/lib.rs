@@ -8,6 +8,7 @@ pub mod compare;
 pub mod frames;
 pub mod history;
 pub mod inputs;
+pub mod lists;
 pub mod orders;
 pub mod pipe;
 pub mod plans;
@@ -17,6 +18,8 @@ pub mod random_inputs;
 pub mod random_plans;
 pub mod readings;
 pub mod reply;
+pub mod take_back;
+pub mod taking_back;
 pub mod vectors;
 
 /// The seed of the vectors in the tree.

@@ -15,7 +15,8 @@ const USAGE: &str =
   write      writes DIR/vectors_*/stdin and stdout; another seed gives other random cases
   check      says whether those files are what `write` would write today
   histories  runs random histories of the frame calls and says whether the domain rule holds of them, whether
-             no domain is above its quota, and whether domains that only take frames use their colours evenly
+             no domain is above its quota, whether a recolouring that is taken back leaves what was before it, and
+             whether domains that only take frames use their colours evenly
   admit      reads a plan from standard input and prints what the program `admit` prints
   compare    runs a compiled `admit` (target/bin/admit) on random inputs (4000) and says where it differs";
 

@@ -24,7 +24,7 @@ pub fn call(state: &mut State, call: &Call, moves: &mut [u16], order: Order) -> 
     let before = state.table.clone();
     let lent = moves.to_vec();
     let reply = state.call(call, moves);
-    if let Reply::Answer(Answer::Moved(count)) = reply {
+    if let (Reply::Answer(Answer::Moved(count)), Call::Recolour { .. }) = (reply, call) {
         order(&mut Listed {
             domain: call.domain(),
             before: &before,

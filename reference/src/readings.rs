@@ -43,7 +43,7 @@ pub fn call(state: &mut State, call: &Call, moves: &mut [u16], reading: Reading)
             now[chosen] = state.table[frame];
             Answer::New(chosen)
         }),
-        (Reply::Answer(answer @ Answer::Moved(count)), _) => {
+        (Reply::Answer(answer @ Answer::Moved(count)), Call::Recolour { .. }) => {
             let mut triples: Vec<&mut [u16]> = moves.chunks_mut(3).take(count).collect();
             triples.sort_by_key(|triple| triple[1]);
             let moved = triples.into_iter().all(|triple| {

@@ -9,7 +9,9 @@ mod plan;
 
 pub use board::Board;
 pub use cache::{bleach, layout};
-pub use frames::{colours, fault, look, recolour, recolour_by_sort, set_quota, Faulted, Looked};
+pub use frames::{
+    colours, fault, look, recolour, recolour_by_sort, set_quota, take_back, Faulted, Looked,
+};
 pub use plan::admit_plan;
 
 #[derive(Clone, Copy, Debug, PartialEq, Eq)]

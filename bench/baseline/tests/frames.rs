@@ -1,15 +1,17 @@
 //! The frame calls against the separate tool's model, on random boards and crowded tables of all lengths, with quotas
-//! about as many as the frames held. Both ways of recolouring leave the same.
+//! about as many as the frames held, and lists that are right or nearly so. Both ways of recolouring leave the same.
 
 use std::collections::BTreeMap;
 
 use baseline::{
-    colours, fault, look, recolour, recolour_by_sort, set_quota, Board, Faulted, Looked, Refusal,
+    colours, fault, look, recolour, recolour_by_sort, set_quota, take_back, Board, Faulted, Looked,
+    Refusal,
 };
 use reference::boards::{
     accepted, any_domain, any_page, any_set, asked_quota, crowded_table, limit, NO_QUOTAS,
 };
-use reference::frames::{frames_held, Answer, Call, State, PAGES};
+use reference::frames::{frames_held, word, Answer, Call, State, DOMAINS, FREE, PAGES, QUOTA};
+use reference::lists::{any_take_back, shuffled};
 use reference::random::Random;
 use reference::reply::Reply;
 
@@ -67,6 +69,11 @@ fn run(
         Call::SetQuota { domain, quota } => {
             Some(set_quota(board, table, domain, quota).map(Answer::Quota))
         }
+        Call::TakeBack {
+            domain,
+            set,
+            ref list,
+        } => Some(take_back(board, table, domain, set, list).map(Answer::Moved)),
         Call::Release { .. } => None,
     }
 }
@@ -110,12 +117,13 @@ fn any_call(random: &mut Random, state: &State, pages: &[u32]) -> Call {
     };
     let held = frames_held(&state.table, domain);
     let quota = asked_quota(random, &state.board, held, domain);
-    match random.below(11) {
+    match random.below(14) {
         0 => Call::Look { domain, page },
         1 | 2 => Call::Release { domain, page },
         3..=5 => Call::Fault { domain, page },
         6 => Call::Colours { domain },
         7 | 8 => Call::SetQuota { domain, quota },
+        9..=11 => any_take_back(random, state, domain),
         _ => Call::Recolour { domain, set, room },
     }
 }
@@ -153,10 +161,52 @@ fn the_baseline_answers_as_the_model() {
         let frames = random.pick(&[1000, 4081, 4095, 4096]);
         script(&mut random, frames, &mut seen);
     }
-    for number in [0, 8, 9, 10, 12, 13, 26, 27, 28] {
+    for number in [0, 8, 9, 10, 12, 13, 26, 27, 28, 31, 32] {
         assert!(
             seen.get(&number).is_some_and(|count| *count > 100),
             "{seen:?}"
         );
     }
+}
+
+/// Half of the longest table, with lists as long as any that pass and longer.
+#[test]
+fn the_longest_lists() {
+    let mut random = Random::new(2003);
+    let mut seen = Seen::new();
+    for colours in [2, 4, 8, 16] {
+        let mut grants = [0; DOMAINS];
+        grants[0] = (1 << colours) - 1;
+        let mut board = reference::frames::Board {
+            colours,
+            frames: 4096,
+            domains: 1,
+            grants,
+            active: grants,
+            quotas: [QUOTA; DOMAINS],
+        };
+        let former = grants[0] & 0x5555;
+        board.active[0] = former;
+        let table = (0..4096)
+            .map(|frame| match frame % 2 {
+                0 => word(0, 1597 * frame % PAGES) as u16,
+                _ => FREE,
+            })
+            .collect();
+        let mut state = State { board, table };
+        let (domain, set, room) = (0, grants[0] & !former, 3 * 2048);
+        let mut list = vec![0; room];
+        state.call(&Call::Recolour { domain, set, room }, &mut list);
+        let mut lists = vec![list.clone(); 5];
+        lists[0][room - 2] = list[1];
+        (lists[1][room - 3], lists[1][room - 1]) = (list[0], list[2]);
+        lists[2].extend_from_slice(&list[..3]);
+        lists[3].truncate(room - 3);
+        lists[4] = shuffled(&mut random, &list);
+        for list in lists {
+            let set = former;
+            compare(&mut state, &Call::TakeBack { domain, set, list }, &mut seen);
+        }
+    }
+    assert_eq!(seen, Seen::from([(0, 4), (31, 12), (32, 4)]));
 }

@@ -1,8 +1,9 @@
-//! Vectors of the calls of document 01, "Board and frame table", and of document 02, No. 6, as scripts of
+//! Vectors of the calls of document 01, "Board and frame table", and of document 02, Nos. 6 and 10, as scripts of
 //! little-endian 32-bit words, their count first. A script is the board (27 words), the table's length and words,
 //! the number of calls, and four words for each: operation, domain, page, set or quota, length of the move list.
+//! Behind the four of a taking back stand the words of its list.
 
-use super::{board_words, even, hash, page_order, put, quota, Set};
+use super::{board_words, even, hash, page_order, put, quota, take_back, Set};
 use crate::boards::{
     accepted, any_domain, any_page, any_set, any_word, empty_table, part_of, spoil,
 };
@@ -14,13 +15,14 @@ use crate::reply::Reply;
 
 const LONGEST_TABLE: usize = 4200;
 pub const LONGEST_LIST: usize = 13_000;
-const CALLS: [&str; 6] = [
+const CALLS: [&str; 7] = [
     "look",
     "fault",
     "release",
     "colours",
     "recolour",
     "set quota",
+    "take back",
 ];
 
 pub fn set(seed: u64) -> Set {
@@ -32,6 +34,7 @@ pub fn set(seed: u64) -> Set {
         &[],
         &[9, 12, 13],
         &[27],
+        &[9, 31, 32],
     ];
     for (call, others) in CALLS.into_iter().zip(others) {
         set.want(call, &[2, 3, 4, 8, 26]);
@@ -56,9 +59,12 @@ pub fn set(seed: u64) -> Set {
     let listed = page_order::scripts(&mut random);
     page_order::assert_told_apart(&listed);
     scripts.extend(listed);
-    let limited = quota::scripts(&mut random, &scripts[refused]);
+    let limited = quota::scripts(&mut random, &scripts[refused.clone()]);
     quota::assert_told_apart(&limited);
     scripts.extend(limited);
+    let taken = take_back::scripts(&mut random, &scripts[refused]);
+    take_back::assert_told_apart(&taken);
+    scripts.extend(taken);
     put(&mut set, scripts.len());
     for script in &scripts {
         add(&mut set, script);
@@ -97,8 +103,15 @@ impl Script {
     }
 
     pub fn call(&mut self, call: Call) -> Reply<Answer> {
+        self.listed(call).0
+    }
+
+    /// What the call answers, and the list that it was lent to write as it stands afterwards.
+    pub fn listed(&mut self, call: Call) -> (Reply<Answer>, Vec<u16>) {
+        let mut list = lent_list(call.room());
+        let reply = (self.step)(&mut self.now, &call, &mut list);
         self.calls.push(call);
-        (self.step)(&mut self.now, &call, &mut lent_list(call.room()))
+        (reply, list)
     }
 
     /// The frames that the domain holds, each with its page.
@@ -136,7 +149,8 @@ fn hash_short(words: &[u16]) -> u32 {
 
 /// Writes a script and what its calls answer, each on the board and table that the one before left: the
 /// reply and a hash of the table; for a recolouring also one of the board, one of the triples as they stand in
-/// the move list, and one of its other words; for set quota one of the board.
+/// the move list, and one of its other words; for set quota one of the board; for a taking back one of the board and
+/// one of its list, which it does not change.
 fn add(set: &mut Set, script: &Script) {
     assert!(script.start.table.len() <= LONGEST_TABLE);
     for word in board_words(&script.start.board) {
@@ -156,12 +170,21 @@ fn add(set: &mut Set, script: &Script) {
             Call::Colours { .. } => (3, 0),
             Call::Recolour { set, .. } => (4, set),
             Call::SetQuota { quota, .. } => (5, quota),
+            Call::TakeBack { set, .. } => (6, set),
         };
-        assert!(call.room() <= LONGEST_LIST);
+        let read = match call {
+            Call::TakeBack { list, .. } => list.as_slice(),
+            _ => &[],
+        };
+        let length = call.room() + read.len();
+        assert!(length <= LONGEST_LIST);
         for word in [operation, call.domain(), argument] {
             put(set, word);
         }
-        put(set, call.room());
+        put(set, length);
+        for word in read {
+            put(set, *word);
+        }
         let mut list = lent_list(call.room());
         let reply = state.call(call, &mut list);
         set.reply(CALLS[operation as usize], reply);
@@ -169,6 +192,9 @@ fn add(set: &mut Set, script: &Script) {
         let board = hash(board_words(&state.board));
         if let Call::SetQuota { .. } = call {
             set.line(&format!("board {board}"));
+        }
+        if let Call::TakeBack { .. } = call {
+            set.line(&format!("board {board} list {}", hash_short(read)));
         }
         if let Call::Recolour { .. } = call {
             let moves = match reply {
@@ -546,6 +572,6 @@ mod tests {
             .collect();
         assert!(moves.contains(&0) && moves.contains(&1));
         assert!(moves.iter().filter(|count| **count >= 1000).count() >= 3);
-        assert!(set.stdin.len() < 900_000);
+        assert!(set.stdin.len() < 1_300_000);
     }
 }

@@ -10,6 +10,7 @@ mod page_order;
 mod plans;
 mod quota;
 mod rounds;
+mod take_back;
 
 use std::collections::BTreeMap;
 use std::fs;

@@ -32,7 +32,7 @@ pub fn scripts(random: &mut Random, refused: &[Script]) -> Vec<Script> {
     scripts
 }
 
-fn board(colours: u32, frames: u32, sets: &[(u32, u32)], quotas: &[u32]) -> Board {
+pub fn board(colours: u32, frames: u32, sets: &[(u32, u32)], quotas: &[u32]) -> Board {
     let mut board = Board {
         colours,
         frames,
@@ -49,37 +49,37 @@ fn board(colours: u32, frames: u32, sets: &[(u32, u32)], quotas: &[u32]) -> Boar
 }
 
 /// The calls of a domain, with what each is answered.
-fn answered(script: &mut Script, calls: &[(Call, Reply<Answer>)]) {
+pub fn answered(script: &mut Script, calls: &[(Call, Reply<Answer>)]) {
     for (call, reply) in calls {
-        assert_eq!(script.call(*call), *reply, "{call:?}");
+        assert_eq!(script.call(call.clone()), *reply, "{call:?}");
     }
 }
 
-fn look(domain: u32, page: u32) -> Call {
+pub fn look(domain: u32, page: u32) -> Call {
     Call::Look { domain, page }
 }
 
-fn fault(domain: u32, page: u32) -> Call {
+pub fn fault(domain: u32, page: u32) -> Call {
     Call::Fault { domain, page }
 }
 
-fn release(domain: u32, page: u32) -> Call {
+pub fn release(domain: u32, page: u32) -> Call {
     Call::Release { domain, page }
 }
 
-fn set_quota(domain: u32, quota: u32) -> Call {
+pub fn set_quota(domain: u32, quota: u32) -> Call {
     Call::SetQuota { domain, quota }
 }
 
-fn recolour(domain: u32, set: u32, room: usize) -> Call {
+pub fn recolour(domain: u32, set: u32, room: usize) -> Call {
     Call::Recolour { domain, set, room }
 }
 
-fn active(set: u32, quota: u32) -> Reply<Answer> {
+pub fn active(set: u32, quota: u32) -> Reply<Answer> {
     Reply::Answer(Answer::Active { set, quota })
 }
 
-fn new(frame: usize) -> Reply<Answer> {
+pub fn new(frame: usize) -> Reply<Answer> {
     Reply::Answer(Answer::New(frame))
 }
 
@@ -87,7 +87,7 @@ fn old(frame: usize) -> Reply<Answer> {
     Reply::Answer(Answer::Old(frame))
 }
 
-fn freed(frame: usize) -> Reply<Answer> {
+pub fn freed(frame: usize) -> Reply<Answer> {
     Reply::Answer(Answer::Freed(frame))
 }
 
@@ -95,7 +95,7 @@ fn quota(quota: u32) -> Reply<Answer> {
     Reply::Answer(Answer::Quota(quota))
 }
 
-fn moved(count: usize) -> Reply<Answer> {
+pub fn moved(count: usize) -> Reply<Answer> {
     Reply::Answer(Answer::Moved(count))
 }
 
@@ -372,7 +372,7 @@ fn fields_beyond(random: &mut Random) -> Vec<Script> {
                 0 => set_quota(domains - 1, QUOTA),
                 _ => any_call(random, &script.now, number % 6),
             };
-            assert_eq!(script.call(call), twin.call(call));
+            assert_eq!(script.call(call.clone()), twin.call(call));
         }
         let fields = |script: &State| script.board.quotas[beyond.clone()].to_vec();
         assert_eq!(fields(&script.now), fields(&script.start));
@@ -546,7 +546,10 @@ fn all_held() -> Script {
 }
 
 /// Whether a loader answers all calls of the script as the model does, with the same board, table and lists.
-fn alike(script: &Script, other: impl Fn(&mut State, &Call, &mut [u16]) -> Reply<Answer>) -> bool {
+pub fn alike(
+    script: &Script,
+    other: impl Fn(&mut State, &Call, &mut [u16]) -> Reply<Answer>,
+) -> bool {
     let mut model = script.start.clone();
     let mut state = script.start.clone();
     script.calls.iter().all(|call| {
