@@ -2,9 +2,10 @@
  * A loader in small: it sees that the archive is its header's, asks for the colours of its cache, boots a
  * board with two guests, faults pages in, recolours a guest, sees that a guest's frames lie evenly over its
  * colours and that pages to copy go upwards, boots again with a quota that leaves frames for recolouring, and
- * admits the plan of document 01, knowing beforehand how many rounds that can take. Each reply is held against
- * what document 01 says, the order of pages, the quota, the even use of colours and the rounds against document
- * 02, Nos. 4, 6, 7 and 9, and the exit status is 1 where one differs, 2 with an archive of another interface.
+ * once more to try a smaller colour set and take that back, and admits the plan of document 01, knowing beforehand
+ * how many rounds that can take. Each reply is held against what document 01 says, the order of pages, the quota,
+ * the even use of colours, the rounds and the taking back against document 02, Nos. 4, 6, 7, 9 and 10, and the exit
+ * status is 1 where one differs, 2 with an archive of another interface.
  */
 #include <stdio.h>
 
@@ -14,6 +15,7 @@
 #define VCPUS 1u
 #define TASKS 2u
 #define ROWS (VCPUS + TASKS)
+#define MOVE_LIST_WORDS (JUZVANEC_MOVE_WORDS * FRAMES)
 #define INPUT_WORDS (7u + VCPUS * JUZVANEC_VCPU_WORDS + TASKS * JUZVANEC_TASK_WORDS)
 
 static int differences = 0;
@@ -117,16 +119,14 @@ static void show_table(const uint16_t *table, const uint16_t *expected)
     printf("\n");
 }
 
-/* A domain recolours, and the loader copies the pages, upwards as the moves stand. */
-static void show_recolour(struct juzvanec_board *board, uint16_t *table, uint32_t domain, uint32_t new_set,
-                          const uint16_t *expected, uint32_t expected_count)
+/* A domain recolours, and the loader copies the pages, upwards as the moves stand in the list that is lent. */
+static void show_moves(struct juzvanec_board *board, uint16_t *table, uint32_t domain, uint32_t new_set,
+                       const uint16_t *expected, uint32_t expected_count, uint16_t moves[MOVE_LIST_WORDS])
 {
-    uint16_t moves[JUZVANEC_MOVE_WORDS * FRAMES];
     uint32_t count, set, quota, row, i;
 
     expect("refusal",
-           juzvanec_recolour(board, table, FRAMES, domain, new_set, moves, sizeof moves / sizeof *moves, &count,
-                             &row),
+           juzvanec_recolour(board, table, FRAMES, domain, new_set, moves, MOVE_LIST_WORDS, &count, &row),
            JUZVANEC_ANSWERED);
     printf("domain %lu recolours to 0x%lx: moves %lu\n", (unsigned long)domain, (unsigned long)new_set,
            (unsigned long)count);
@@ -143,6 +143,15 @@ static void show_recolour(struct juzvanec_board *board, uint16_t *table, uint32_
     expect("active set", set, new_set);
     expect("board's set", board->active[domain], new_set);
     expect("quota", quota, board->quotas[domain]);
+}
+
+/* A recolouring that is not taken back. */
+static void show_recolour(struct juzvanec_board *board, uint16_t *table, uint32_t domain, uint32_t new_set,
+                          const uint16_t *expected, uint32_t expected_count)
+{
+    uint16_t moves[MOVE_LIST_WORDS];
+
+    show_moves(board, table, domain, new_set, expected, expected_count, moves);
 }
 
 static void show_release(const struct juzvanec_board *board, uint16_t *table, uint32_t domain, uint32_t page,
@@ -201,8 +210,9 @@ static void show_set_quota(struct juzvanec_board *board, const uint16_t *table, 
     expect("board's quota", board->quotas[1], number == JUZVANEC_ANSWERED ? quota : before);
 }
 
-static void show_colours(const struct juzvanec_board *board, const uint16_t *table, uint32_t expected_set,
-                         uint32_t expected_quota)
+/* What domain 1 is told of its colours and quota; the loader may keep the set. */
+static uint32_t show_colours(const struct juzvanec_board *board, const uint16_t *table, uint32_t expected_set,
+                             uint32_t expected_quota)
 {
     uint32_t set, quota, row;
 
@@ -210,6 +220,7 @@ static void show_colours(const struct juzvanec_board *board, const uint16_t *tab
     printf("domain 1 has colours 0x%lx and quota %lu\n", (unsigned long)set, (unsigned long)quota);
     expect("active set", set, expected_set);
     expect("quota", quota, expected_quota);
+    return set;
 }
 
 /*
@@ -235,6 +246,67 @@ static void show_quota(void)
     show_recolour(&board, table, 1, 0x4, move, 1);
     show_table(table, after);
     show_colours(&board, table, 0x4, 2);
+}
+
+/* Domain 1 takes so many moves back to a set, and the loader copies the pages back: from the new to the old frame. */
+static void show_take_back(struct juzvanec_board *board, uint16_t *table, uint32_t set, const uint16_t *moves,
+                           uint32_t move_count, uint32_t expected)
+{
+    uint32_t count, row, i;
+    uint32_t number = juzvanec_take_back(board, table, FRAMES, 1, set, moves, JUZVANEC_MOVE_WORDS * move_count,
+                                         &count, &row);
+
+    printf("domain 1 takes %lu moves back to 0x%lx: ", (unsigned long)move_count, (unsigned long)set);
+    if (number == JUZVANEC_ANSWERED)
+        printf("moves %lu\n", (unsigned long)count);
+    else
+        printf("refused %lu\n", (unsigned long)number);
+    expect("refusal", number, expected);
+    expect("moves", count, number == JUZVANEC_ANSWERED ? move_count : 0);
+    for (i = 0; i < count; i++) {
+        const uint16_t *move = moves + JUZVANEC_MOVE_WORDS * i;
+
+        printf("copy page %u from frame %u to frame %u\n", (unsigned)move[0], (unsigned)move[2],
+               (unsigned)move[1]);
+    }
+}
+
+/*
+ * The display guest has pages 7 and 1 in frames 2 and 6, both of colour 2, and is tried with colour 3 alone: its
+ * frames go to 3 and 7. The former set is asked for before, and kept with the moves. Timed, it is too slow, and the
+ * moves are taken back; what the other guest did meanwhile stays. A second time nothing is left to take back, and
+ * with no moves the guest cannot have a set that its frames lie outside of.
+ */
+static void show_taking_back(void)
+{
+    static const uint16_t expected[2 * JUZVANEC_MOVE_WORDS] = {1, 6, 7, 7, 2, 3};
+    static const uint16_t before[FRAMES] = {0, 0, JUZVANEC_PAGE_WORD(1, 7), 0, 0, 0, JUZVANEC_PAGE_WORD(1, 1)};
+    static const uint16_t tried[FRAMES] = {
+        JUZVANEC_PAGE_WORD(0, 9), 0, 0, JUZVANEC_PAGE_WORD(1, 7), 0, 0, 0, JUZVANEC_PAGE_WORD(1, 1)};
+    static const uint16_t after[FRAMES] = {
+        JUZVANEC_PAGE_WORD(0, 9), 0, JUZVANEC_PAGE_WORD(1, 7), 0, 0, 0, JUZVANEC_PAGE_WORD(1, 1)};
+    struct juzvanec_board board;
+    uint16_t table[FRAMES], moves[MOVE_LIST_WORDS];
+    uint32_t former;
+
+    boot(&board, table);
+    show_fault(&board, table, 1, 7, JUZVANEC_ANSWERED, 2);
+    show_fault(&board, table, 1, 5, JUZVANEC_ANSWERED, 3);
+    show_fault(&board, table, 1, 1, JUZVANEC_ANSWERED, 6);
+    show_release(&board, table, 1, 5, 3);
+    show_table(table, before);
+    former = show_colours(&board, table, 0xC, JUZVANEC_FIRST_QUOTA);
+    show_moves(&board, table, 1, 0x8, expected, 2, moves);
+    show_fault(&board, table, 0, 9, JUZVANEC_ANSWERED, 0);
+    show_table(table, tried);
+    show_take_back(&board, table, former, moves, 2, JUZVANEC_ANSWERED);
+    show_table(table, after);
+    show_colours(&board, table, 0xC, JUZVANEC_FIRST_QUOTA);
+    show_look(&board, table, 1, 1, 1, 6);
+    show_look(&board, table, 1, 7, 1, 2);
+    show_take_back(&board, table, former, moves, 2, JUZVANEC_REFUSED_TRIPLES);
+    show_take_back(&board, table, 0x8, moves, 0, JUZVANEC_REFUSED_LEFT_OUTSIDE);
+    show_take_back(&board, table, former, moves, 0, JUZVANEC_ANSWERED);
 }
 
 static void show_frames(void)
@@ -407,6 +479,7 @@ int main(void)
     show_pages();
     show_frames();
     show_quota();
+    show_taking_back();
     fill_costs();
     show_plan();
     show_admit();

@@ -40,7 +40,7 @@ extern "C" {
  *     if (juzvanec_interface() != JUZVANEC_INTERFACE)
  *         do not boot
  */
-#define JUZVANEC_INTERFACE 6u
+#define JUZVANEC_INTERFACE 7u
 
 /* Limits. */
 #define JUZVANEC_MOST_COLOURS 16u
@@ -52,7 +52,7 @@ extern "C" {
 #define JUZVANEC_MOST_RELOAD 10000u       /* microseconds for each colour */
 #define JUZVANEC_MOST_TIME 1000000u       /* microseconds: a period, a deadline or a cost */
 #define JUZVANEC_CORES 4u                 /* cores 0 to 3 */
-#define JUZVANEC_LAST_PAGE 4095u          /* look, fault, release */
+#define JUZVANEC_LAST_PAGE 4095u          /* look, fault, release, take back */
 #define JUZVANEC_LAST_INDEX 16777215u     /* layout: 2^24 - 1 */
 #define JUZVANEC_LAST_BLEACHED 268435455u /* bleaching: page 2^28 - 1 */
 #define JUZVANEC_PAGE_BYTES 4096u         /* a page or a frame */
@@ -166,6 +166,8 @@ static inline const uint32_t *juzvanec_tasks_as_words(const struct juzvanec_task
 #define JUZVANEC_REFUSED_QUOTA 26u        /* a board quota is 0 or above 4,096 */
 #define JUZVANEC_REFUSED_NEW_QUOTA 27u    /* the quota asked for is 0, above 4,096 or below the frames held */
 #define JUZVANEC_REFUSED_AT_QUOTA 28u     /* an unmapped page faults, and the frames held reach the quota */
+#define JUZVANEC_REFUSED_TRIPLES 31u      /* the triples to take back are not whole, or do not fit the table */
+#define JUZVANEC_REFUSED_LEFT_OUTSIDE 32u /* a frame of the domain would lie outside the former set */
 
 /* The number of the archive's interface, to be compared with JUZVANEC_INTERFACE. */
 uint32_t juzvanec_interface(void);
@@ -225,6 +227,31 @@ uint32_t juzvanec_set_quota(struct juzvanec_board *board, const uint16_t *table,
 uint32_t juzvanec_recolour(struct juzvanec_board *board, uint16_t *table, size_t table_words,
                            uint32_t domain, uint32_t set, uint16_t *moves, size_t move_words,
                            uint32_t *count, uint32_t *row);
+
+/*
+ * Takes a recolouring back: the page of each triple goes from its new frame back to its old one, which gets the page
+ * word, the new frame becomes free, and the set, the former one, is the domain's active set in the board. *count is
+ * the number of moves. The pages' contents are the caller's to copy back, from new to old frame, in any order, once the
+ * call has answered and before the domain's next call; on a refusal there is nothing to copy.
+ *
+ * The list is just the triples that juzvanec_recolour wrote: the first JUZVANEC_MOVE_WORDS * count words of its move
+ * list, and not the room behind them. It is only read, and may stand in any order; where nothing moved, its length is
+ * 0. The former set is what juzvanec_colours answered before the recolouring, which the caller keeps. With nothing
+ * but other domains' calls since the recolouring, and from an empty table on, the call answers, and each page of the
+ * domain has the frame that it had before. Where the domain has released or recoloured since, the list need not fit
+ * any more. Quotas play no part.
+ *
+ * The call knows the list and the set that it is given, and no recolouring: it takes every list and set that fit. A list
+ * that lacks some of the triples leaves their pages where they are; compare *count with the recolouring's.
+ *
+ * 31: the length is no multiple of three, or the list names a page above 4,095, a frame at or above F or a frame
+ * twice; or a new frame has not the domain's word for its page, or an old frame is not free or not of the set. 32:
+ * after the moves some frame of the domain, in the list or not, would lie outside the set.
+ * The call takes at most 4,864 bytes of stack. Refusals 2 to 7, 26, 8, 9, 31, 32.
+ */
+uint32_t juzvanec_take_back(struct juzvanec_board *board, uint16_t *table, size_t table_words,
+                            uint32_t domain, uint32_t set, const uint16_t *moves, size_t move_words,
+                            uint32_t *count, uint32_t *row);
 
 /*
  * The part of a VCPU in the caller's task list, of any words: it starts at word *start and has *length

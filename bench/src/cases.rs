@@ -450,6 +450,96 @@ impl Case for Recolour {
     }
 }
 
+/// Domain 0 takes a recolouring back: the state before it, which comes out again, and the one after it, which is
+/// copied first.
+pub struct TakeBack {
+    before: Frames,
+    after: Frames,
+    moves: Vec<u16>,
+    now: Frames,
+}
+
+impl TakeBack {
+    /// Of moves of all frames outside a set to free ones in it, with the list in page order. No recolouring makes
+    /// them, whose instructions would be counted with those of its own cases.
+    pub fn new(board: Board, table: Vec<u16>, set: u32) -> Self {
+        let (mut after, mut moved) = (board, table.clone());
+        after.active[0] = set;
+        let inside = |frame: &usize| set >> (frame % board.colours as usize) & 1 == 1;
+        let held = (0..table.len()).filter(|frame| (1..=4096).contains(&table[*frame]));
+        let free = (0..table.len()).filter(|frame| table[*frame] == 0 && inside(frame));
+        let mut triples: Vec<[u16; 3]> = held
+            .filter(|frame| !inside(frame))
+            .zip(free)
+            .map(|(old, new)| [table[old] - 1, old as u16, new as u16])
+            .collect();
+        triples.sort_unstable();
+        for [_, old, new] in &triples {
+            moved.swap(usize::from(*old), usize::from(*new));
+        }
+        TakeBack {
+            before: Frames::new(board, table, 0),
+            now: Frames::new(after, moved.clone(), 0),
+            after: Frames::new(after, moved, 0),
+            moves: triples.concat(),
+        }
+    }
+
+    /// With the list by this key of its pages.
+    pub fn by_key(mut self, key: fn(u32) -> u32) -> Self {
+        let mut triples: Vec<&[u16]> = self.moves.chunks(3).collect();
+        triples.sort_by_key(|triple| key(triple[0].into()));
+        self.moves = triples.concat();
+        self
+    }
+
+    #[inline(always)]
+    fn restore(&mut self) {
+        self.now.board = self.after.board;
+        self.now.lent = self.after.lent;
+        self.now.table.copy_from_slice(&self.after.table);
+    }
+
+    fn reply_ours(&mut self) -> Reply {
+        self.restore();
+        let Frames { lent, table, .. } = &mut self.now;
+        let set = black_box(self.before.board.active[0]);
+        ours::take_back(lent, table, 0, set, black_box(&self.moves))
+    }
+
+    fn reply_base(&mut self) -> Result<usize, Refusal> {
+        self.restore();
+        let Frames { board, table, .. } = &mut self.now;
+        let set = black_box(self.before.board.active[0]);
+        baseline::take_back(board, table, 0, set, black_box(&self.moves))
+    }
+}
+
+impl Case for TakeBack {
+    fn ours(&mut self) {
+        black_box(self.reply_ours());
+    }
+
+    fn base(&mut self) {
+        let _ = black_box(self.reply_base());
+    }
+
+    fn agree(&mut self) -> bool {
+        let moves = self.moves.clone();
+        let one = self.reply_ours();
+        let ours = self.now.table == self.before.table && self.now.lent == self.before.lent;
+        let two = reply(self.reply_base(), |count| [count as u32, 0]);
+        let base =
+            self.now.table == self.before.table && ours::lent(&self.now.board) == self.before.lent;
+        let counted = one == (0, 0, [moves.len() as u32 / 3, 0]);
+        one == two && ours && base && counted && moves == self.moves
+    }
+
+    fn symbols(&self) -> [&'static str; 2] {
+        ["juzvanec_take_back", "baseline_take_back"]
+    }
+}
+
 /// The admission of a plan.
 pub struct Admission {
     plan: Plan,

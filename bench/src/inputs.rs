@@ -3,7 +3,7 @@
 use baseline::Board;
 
 use crate::cases::{Admission, Boot, Case, Colours, Fault, Frames, IdleFault, Look, Pages};
-use crate::cases::{Recolour, SetQuota};
+use crate::cases::{Recolour, SetQuota, TakeBack};
 
 /// All rows of the largest plan.
 pub const ROWS: usize = 48;
@@ -126,12 +126,31 @@ fn uneven_recolouring(frames: u32) -> Recolour {
     Recolour::new(board, table, 0xFF00, moves)
 }
 
-/// A recolouring to the upper half, where all those frames lie already.
-fn idle_recolouring(frames: u32) -> Recolour {
+/// The frames of `lower_half`, but in the upper one.
+fn upper_half(frames: u32) -> (Board, Vec<u16>) {
     let (board, mut table) = lower_half(frames, moving(frames), RISING, [0; 3]);
     // from a frame to the one whose colour is eight higher
     table.rotate_right(8);
+    (board, table)
+}
+
+/// A recolouring to the upper half, where all those frames lie already.
+fn idle_recolouring(frames: u32) -> Recolour {
+    let (board, table) = upper_half(frames);
     Recolour::new(board, table, 0xFF00, 0)
+}
+
+/// A recolouring of so many frames to the upper half, taken back.
+fn taking_back(frames: u32, moves: u32) -> TakeBack {
+    let (board, table) = lower_half(frames, moves, RISING, [0; 3]);
+    TakeBack::new(board, table, 0xFF00)
+}
+
+/// A recolouring from all colours to the upper half that moved nothing, taken back.
+fn idle_taking_back(frames: u32) -> TakeBack {
+    let (mut board, table) = upper_half(frames);
+    board.active[0] = 0xFFFF;
+    TakeBack::new(board, table, 0xFF00)
 }
 
 fn task(vcpu: u32, period: u32, deadline: u32, set: u32, cost: u32) -> Vec<u32> {
@@ -314,6 +333,7 @@ fn frame_cases(f: u32) -> Vec<Named> {
         named("boot", &format!(" of {faults} faults{size}"), boot),
     ];
     cases.extend(recolour_cases(f, "", |case| case));
+    cases.extend(take_back_cases(f));
     cases
 }
 
@@ -336,6 +356,22 @@ fn recolour_cases(f: u32, by: &str, against: fn(Recolour) -> Recolour) -> Vec<Na
     cases
         .map(|(kind, size, case)| named(kind, size, against(case)))
         .collect()
+}
+
+/// Recolourings of F frames that are taken back.
+fn take_back_cases(f: u32) -> Vec<Named> {
+    let moves = moving(f);
+    let all = || taking_back(f, moves);
+    let size = format!(", F = {f}");
+    let sizes = format!(" of {moves} frames{size}");
+    let listed = format!(", {moves} frames{size}");
+    let shuffled = all().by_key(SCATTERED);
+    vec![
+        named("take back", &sizes, all()),
+        named("take back, shuffled list", &listed, shuffled),
+        named("take back of 10 frames", &size, taking_back(f, 10)),
+        named("take back, empty list", &size, idle_taking_back(f)),
+    ]
 }
 
 /// Recolouring at full size against a baseline that sorts.

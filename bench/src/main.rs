@@ -170,7 +170,8 @@ fn rounds_table(whats: &[What]) {
 
 fn report(whats: &[What]) -> bool {
     let board = "N = 16. Look, fault, colours, set quota and boot are on a board of four domains. Quotas are those \
-                 at first, but for a fault at the quota, which is refused with 28.";
+                 at first, but for a fault at the quota, which is refused with 28. Each take back undoes the \
+                 recolouring of as many frames, with the triples in page order or shuffled.";
     let plan = "With nested sets all tasks are on one VCPU, and each shares a colour with the next. The hard \
                 plan is refused with 22 at its last row, after that many rounds.";
     let text = format!("{board} {plan}");

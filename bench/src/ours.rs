@@ -125,6 +125,33 @@ pub fn recolour(
 }
 
 #[inline(always)]
+pub fn take_back(
+    board: &mut Board,
+    table: &mut [u16],
+    domain: u32,
+    set: u32,
+    moves: &[u16],
+) -> Reply {
+    let [mut count, mut row] = [0; 2];
+    // SAFETY: board, table and move list are valid for their lengths and lie apart; two words of this
+    // function's own are lent.
+    let number = unsafe {
+        raw::juzvanec_take_back(
+            board,
+            table.as_mut_ptr(),
+            table.len(),
+            domain,
+            set,
+            moves.as_ptr(),
+            moves.len(),
+            &mut count,
+            &mut row,
+        )
+    };
+    (number, row, [count, 0])
+}
+
+#[inline(always)]
 pub fn admit_plan(
     board: &Board,
     reload: u32,

@@ -74,6 +74,11 @@ static uint32_t recolour(uint32_t domain, uint32_t set, size_t move_words)
     return juzvanec_recolour(&board, table, board.frames, domain, set, moves, move_words, &first, &row);
 }
 
+static uint32_t take_back(uint32_t domain, uint32_t set, size_t move_words)
+{
+    return juzvanec_take_back(&board, table, board.frames, domain, set, moves, move_words, &first, &row);
+}
+
 static uint32_t admit_plan(void)
 {
     return juzvanec_admit_plan(&board, reload, vcpus, vcpu_words, tasks, task_words, times, times_words, rounds,
@@ -253,6 +258,54 @@ static void test_recolour(void)
     EXPECT(moves[1], 0);
     EXPECT(moves[2], 1);
     EXPECT(moves[JUZVANEC_MOVE_WORDS], 0x7777);
+}
+
+/* One triple, for which the new frame has the domain's word, if there is such a page and frame. */
+static void put_move(uint32_t domain, uint32_t page, uint32_t old_frame, uint32_t new_frame)
+{
+    boot_most();
+    moves[0] = (uint16_t)page;
+    moves[1] = (uint16_t)old_frame;
+    moves[2] = (uint16_t)new_frame;
+    table[new_frame] = JUZVANEC_PAGE_WORD(domain, page);
+}
+
+/* Each domain's active set is the field of its number, and no other field changes. */
+static void test_take_back(void)
+{
+    struct juzvanec_board before;
+    uint16_t list[64];
+    uint32_t domain, set;
+
+    for (domain = 0; domain < JUZVANEC_MOST_DOMAINS; domain++) {
+        /* from the active colour to the other one of the grant */
+        set = 2u << 2u * domain;
+        put_move(domain, JUZVANEC_LAST_PAGE, 2u * domain + 1u, 2u * domain);
+        before = board;
+        memcpy(list, moves, sizeof list);
+        REFUSED(take_back(domain, set, JUZVANEC_MOVE_WORDS - 1u), JUZVANEC_REFUSED_TRIPLES, 0);
+        REFUSED(take_back(domain, set, JUZVANEC_MOVE_WORDS + 1u), JUZVANEC_REFUSED_TRIPLES, 0);
+        REFUSED(take_back(domain, set, 0), JUZVANEC_REFUSED_LEFT_OUTSIDE, 0);
+        REFUSED(take_back(domain, 0, JUZVANEC_MOVE_WORDS), JUZVANEC_REFUSED_SET, 0);
+        REFUSED(take_back(JUZVANEC_MOST_DOMAINS, set, JUZVANEC_MOVE_WORDS), JUZVANEC_REFUSED_CALLER, 0);
+        EXPECT(first, 0);
+        EXPECT(memcmp(&board, &before, sizeof board) != 0, 0);
+        EXPECT(table[2u * domain], JUZVANEC_PAGE_WORD(domain, JUZVANEC_LAST_PAGE));
+        ANSWERED(take_back(domain, set, JUZVANEC_MOVE_WORDS));
+        EXPECT(first, 1);
+        EXPECT(table[2u * domain], JUZVANEC_FREE);
+        EXPECT(table[2u * domain + 1u], JUZVANEC_PAGE_WORD(domain, JUZVANEC_LAST_PAGE));
+        before.active[domain] = set;
+        EXPECT(memcmp(&board, &before, sizeof board) != 0, 0);
+        EXPECT(memcmp(list, moves, sizeof list) != 0, 0);
+        REFUSED(take_back(domain, set, JUZVANEC_MOVE_WORDS), JUZVANEC_REFUSED_TRIPLES, 0);
+        ANSWERED(take_back(domain, set, 0));
+        EXPECT(first, 0);
+        put_move(domain, JUZVANEC_LAST_PAGE + 1u, 2u * domain + 1u, 2u * domain);
+        REFUSED(take_back(domain, set, JUZVANEC_MOVE_WORDS), JUZVANEC_REFUSED_TRIPLES, 0);
+        put_move(domain, 5, board.frames + 2u * domain + 1u, 2u * domain);
+        REFUSED(take_back(domain, set, JUZVANEC_MOVE_WORDS), JUZVANEC_REFUSED_TRIPLES, 0);
+    }
 }
 
 /* A VCPU row by the numbers of its words; whatever they leave out stays rubbish. */
@@ -500,6 +553,7 @@ int main(void)
     test_table();
     test_quotas();
     test_recolour();
+    test_take_back();
     test_lengths();
     test_rows();
     test_structs();

@@ -2,8 +2,9 @@
  * Measures how much stack each function takes, with what it calls, from the first argument or return
  * address that the caller stores: the calls run on a stack of their own that was painted before, on plans
  * and boards of every size and on such as are refused. Prints the bytes for each function. README_RECOLOUR,
- * README_ADMIT and README_OTHERS are what the README says of juzvanec_recolour, of juzvanec_admit and of the
- * others; the exit status is 1 where a call takes more, or where the README says over 512 bytes too many.
+ * README_TAKE_BACK, README_ADMIT and README_OTHERS are what the README says of juzvanec_recolour, of
+ * juzvanec_take_back, of juzvanec_admit and of the others; the exit status is 1 where a call takes more, or where
+ * the README says over 512 bytes too many.
  */
 #define _XOPEN_SOURCE 700
 #include <stdio.h>
@@ -18,6 +19,8 @@ static void (*call)(void);
 /* What is lent, and what comes back. */
 static struct juzvanec_board board, as_booted;
 static uint16_t table[JUZVANEC_MOST_FRAMES], moves[JUZVANEC_MOVE_WORDS * JUZVANEC_MOST_FRAMES];
+static uint16_t triples[JUZVANEC_MOVE_WORDS * JUZVANEC_MOST_FRAMES / 16];
+static size_t triple_words;
 static struct juzvanec_vcpu vcpus[JUZVANEC_MOST_VCPUS];
 static struct juzvanec_task tasks[JUZVANEC_MOST_TASKS];
 static uint32_t times[JUZVANEC_MOST_VCPUS + JUZVANEC_MOST_TASKS];
@@ -80,6 +83,11 @@ static void call_recolour(void)
     juzvanec_recolour(&board, table, board.frames, 1, 0x8, moves, sizeof moves / sizeof *moves, &first, &row);
 }
 
+static void call_take_back(void)
+{
+    juzvanec_take_back(&board, table, board.frames, 1, 0x8, triples, triple_words, &first, &row);
+}
+
 static void call_part(void)
 {
     juzvanec_part(juzvanec_tasks_as_words(tasks), sizeof tasks / 4, 15, &start, &length);
@@ -127,10 +135,14 @@ static void put(const void *words, size_t bytes)
     input_bytes += bytes;
 }
 
-/* Every domain, VCPU, task and frame that there may be; domain 1 holds half of its frames. */
+/*
+ * Every domain, VCPU, task and frame that there may be. Domain 1 holds half of its frames, those of its lower colour,
+ * and has triples by which all go to the upper one.
+ */
 static void boot(void)
 {
     uint32_t i, k;
+    uint16_t *triple = triples;
 
     as_booted.colours = JUZVANEC_MOST_COLOURS;
     as_booted.frames = JUZVANEC_MOST_FRAMES;
@@ -141,6 +153,12 @@ static void boot(void)
     }
     for (i = 0; i < JUZVANEC_MOST_FRAMES; i++)
         table[i] = i % 16 == 2 ? JUZVANEC_PAGE_WORD(1, i / 16) : JUZVANEC_FREE;
+    for (i = 2; i < JUZVANEC_MOST_FRAMES; i += 16) {
+        *triple++ = (uint16_t)(i / 16);
+        *triple++ = (uint16_t)(i + 1u);
+        *triple++ = (uint16_t)i;
+    }
+    triple_words = sizeof triples / sizeof *triples;
     for (i = 0; i < JUZVANEC_MOST_VCPUS; i++) {
         vcpus[i].core = i % JUZVANEC_CORES;
         vcpus[i].domain = i / 2;
@@ -156,7 +174,7 @@ static void boot(void)
     }
 }
 
-/* The way in which the board or the plan is at fault; the input of `admit` is made of it. */
+/* The way in which the board, the plan or the triples are at fault; the input of `admit` is made of the plan. */
 static void spoil(unsigned fault)
 {
     uint32_t counts[2] = {100, JUZVANEC_MOST_VCPUS}, rows = JUZVANEC_MOST_TASKS;
@@ -184,6 +202,12 @@ static void spoil(unsigned fault)
         as_booted.quotas[7] = 0;
     if (fault == 12)
         as_booted.quotas[1] = 1;
+    if (fault == 13)
+        triples[triple_words - 2u] = triples[1];
+    if (fault == 14)
+        triple_words -= JUZVANEC_MOVE_WORDS;
+    if (fault == 15)
+        triple_words--;
     input_bytes = 0;
     put(&as_booted, 12);
     put(as_booted.grants, sizeof as_booted.grants);
@@ -199,7 +223,7 @@ static size_t most(void (*called)(void))
     size_t deepest = 0, base, bytes;
     unsigned fault, paint;
 
-    for (fault = 0; fault <= 12; fault++)
+    for (fault = 0; fault <= 15; fault++)
         for (paint = 0x5A; paint <= 0xA5; paint += 0xA5 - 0x5A) {
             spoil(fault);
             board = as_booted;
@@ -220,22 +244,25 @@ int main(void)
         void (*called)(void);
     } functions[] = {FUNCTION(interface), FUNCTION(cache_colours), FUNCTION(layout),   FUNCTION(bleach),
                      FUNCTION(look),      FUNCTION(fault),         FUNCTION(release),  FUNCTION(colours),
-                     FUNCTION(set_quota), FUNCTION(recolour),      FUNCTION(part),     FUNCTION(admit_plan),
-                     FUNCTION(admit)};
-    /* what the README says, and the most that was seen: of a recolouring, of `admit` and of the others */
-    static const size_t said[] = {README_RECOLOUR, README_ADMIT, README_OTHERS};
-    size_t seen[] = {0, 0, 0}, bytes;
+                     FUNCTION(set_quota), FUNCTION(recolour),      FUNCTION(take_back), FUNCTION(part),
+                     FUNCTION(admit_plan), FUNCTION(admit)};
+    /* what the README says, and the most that was seen: of a recolouring, of taking back, of `admit`, of the others */
+    static const size_t said[] = {README_RECOLOUR, README_TAKE_BACK, README_ADMIT, README_OTHERS};
+    size_t seen[] = {0, 0, 0, 0}, bytes;
     unsigned i, kind;
     int wrong = 0;
 
     for (i = 0; i < sizeof functions / sizeof *functions; i++) {
         bytes = most(functions[i].called);
         printf("%s: %lu bytes of stack\n", functions[i].name, (unsigned long)bytes);
-        kind = functions[i].called == call_recolour ? 0 : functions[i].called == call_admit ? 1 : 2;
+        kind = functions[i].called == call_recolour    ? 0
+               : functions[i].called == call_take_back ? 1
+               : functions[i].called == call_admit     ? 2
+                                                       : 3;
         if (bytes > seen[kind])
             seen[kind] = bytes;
     }
-    for (kind = 0; kind < 3; kind++)
+    for (kind = 0; kind < sizeof said / sizeof *said; kind++)
         if (seen[kind] > said[kind] || seen[kind] + 512 < said[kind]) {
             printf("%lu bytes of stack were seen, and the README says %lu\n", (unsigned long)seen[kind],
                    (unsigned long)said[kind]);

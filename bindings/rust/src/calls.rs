@@ -268,7 +268,7 @@ pub fn set_quota(
 /// it, each chosen as [`fault`] chooses, with the frames that were moved before counted. The answer is the
 /// count of moves; the move list gets a page, an old and a new frame for each, by ascending page and, for
 /// equal pages, by ascending old frame, and its rest does not change. A quota stops no recolouring, since the
-/// frames held stay as many. Refusals 2 to 7, 26, 8, 9, 12, 13.
+/// frames held stay as many. [`take_back`] undoes it. Refusals 2 to 7, 26, 8, 9, 12, 13.
 ///
 /// ```
 /// use juzvanec::{recolour, Board};
@@ -304,6 +304,66 @@ pub fn recolour(
             domain,
             set,
             moves.as_mut_ptr(),
+            moves.len(),
+            &mut count,
+            &mut row,
+        )
+    };
+    reply(number, row, count as usize)
+}
+
+/// Takes a recolouring back: the page of each triple goes from its new frame back to its old one, the new frame
+/// becomes free, and the set, the former one, is active. The answer is the count of moves.
+///
+/// The list is just the triples that [`recolour`] wrote, `moves[..3 * count]`. It is only read, and may stand in
+/// any order; where nothing moved, it is empty. The former set is what [`colours`] answered before the
+/// recolouring, which the caller keeps. With nothing but other domains' calls since the recolouring, and from an
+/// empty table on, the call answers, and each page of the domain has the frame that it had before. Quotas play no
+/// part.
+///
+/// The call knows the list and the set that it is given, and no recolouring: it takes every list and set that fit. A
+/// list that lacks some of the triples leaves their pages where they are, so the count is to be compared with the
+/// recolouring's. Refusals 2 to 7, 26, 8, 9, 31, 32.
+///
+/// ```
+/// use juzvanec::{colours, recolour, take_back, Board};
+///
+/// let mut board = Board::new(4, 8, &[0x3, 0xC]);
+/// // domain 0 has page 2 in frame 0 and page 1 in frame 4
+/// let mut table = [3, 0, 4097, 0, 2, 0, 0, 0];
+/// let former = colours(&board, &table, 0).unwrap().set;
+/// let mut moves = [0; 12];
+/// let count = recolour(&mut board, &mut table, 0, 0x2, &mut moves).unwrap();
+/// assert_eq!(table, [0, 3, 4097, 0, 0, 2, 0, 0]);
+/// // timed, and the former set was better
+/// let triples = &moves[..3 * count];
+/// assert_eq!(take_back(&mut board, &mut table, 0, former, triples), Ok(2));
+/// assert_eq!(table, [3, 0, 4097, 0, 2, 0, 0, 0]);
+/// assert_eq!(board.active[0], 0x3);
+/// // they are back already
+/// let again = take_back(&mut board, &mut table, 0, former, triples);
+/// assert_eq!(again.unwrap_err().number, 31);
+/// ```
+#[inline]
+pub fn take_back(
+    board: &mut Board,
+    table: &mut [u16],
+    domain: u32,
+    set: u32,
+    moves: &[u16],
+) -> Result<usize, Refusal> {
+    see_interface();
+    let (mut count, mut row) = (0, 0);
+    // SAFETY: the board has 27 words, and the table and the move list as many as they say; board, table and
+    // two words of this function's own are lent for writing.
+    let number = unsafe {
+        raw::juzvanec_take_back(
+            board,
+            table.as_mut_ptr(),
+            table.len(),
+            domain,
+            set,
+            moves.as_ptr(),
             moves.len(),
             &mut count,
             &mut row,

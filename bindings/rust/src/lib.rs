@@ -33,7 +33,7 @@ pub mod raw;
 pub use board::Board;
 pub use calls::{
     admit, admit_plan, bleach, cache_colours, colours, fault, layout, look, part, recolour,
-    release, set_quota,
+    release, set_quota, take_back,
 };
 pub use refusal::{row_names, Refusal, RowNames};
 pub use rows::{Task, Vcpu};
@@ -41,7 +41,7 @@ pub use text::Verdict;
 
 /// The number of the C interface that this package is for. An archive of another number makes every
 /// function panic; [`raw::juzvanec_interface`] tells that of the archive.
-pub const INTERFACE: u32 = 6;
+pub const INTERFACE: u32 = 7;
 
 /// The most colours of a cache.
 pub const COLOURS: usize = 16;

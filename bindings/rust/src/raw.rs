@@ -91,6 +91,18 @@ extern "C" {
         row: *mut u32,
     ) -> u32;
 
+    pub fn juzvanec_take_back(
+        board: *mut Board,
+        table: *mut u16,
+        table_words: usize,
+        domain: u32,
+        set: u32,
+        moves: *const u16,
+        move_words: usize,
+        count: *mut u32,
+        row: *mut u32,
+    ) -> u32;
+
     pub fn juzvanec_part(
         tasks: *const u32,
         task_words: usize,

@@ -77,6 +77,12 @@ impl Refusal {
             26 => "a quota of the board is 0 or above 4,096",
             27 => "the quota asked for is 0, above 4,096 or below the frames held",
             28 => "the page is unmapped, and the frames held are at or above the quota",
+            31 => {
+                "the list is no multiple of three words, names a page above 4,095, a frame that the \
+                 board has not or a frame twice, or a triple's new frame lacks the domain's word for \
+                 the page, or its old frame is not a free frame of the former set"
+            }
+            32 => "some frame of the domain would lie outside the former set",
             _ => "no such refusal",
         }
     }

@@ -149,6 +149,26 @@ fn words_of_a_move() {
     assert_eq!(moved(MOVE_WORDS - 1), refused(13, 0));
 }
 
+/// The words of a move that is taken back, and the last page and frame that it may name.
+#[test]
+fn limits_of_taking_back() {
+    let back = |page: u32, old: usize, words: usize| {
+        let mut board = Board::new(1, FRAMES as u32, &[1]);
+        let mut table = vec![FREE; FRAMES];
+        table[0] = page_word(0, page).unwrap_or(1 + page as u16);
+        let moves = [page as u16, old as u16, 0, 0];
+        take_back(&mut board, &mut table, 0, 1, &moves[..words]).map(|count| (count, table[old]))
+    };
+    let last = (LAST_PAGE, FRAMES - 1);
+    assert_eq!(back(last.0, last.1, MOVE_WORDS), Ok((1, 4096)));
+    assert_eq!(back(last.0, last.1, 0), Ok((0, FREE)));
+    for words in [MOVE_WORDS - 1, MOVE_WORDS + 1] {
+        assert_eq!(back(last.0, last.1, words), refused(31, 0));
+    }
+    assert_eq!(back(last.0 + 1, last.1, MOVE_WORDS), refused(31, 0));
+    assert_eq!(back(last.0, last.1 + 1, MOVE_WORDS), refused(31, 0));
+}
+
 /// So many VCPU rows and task rows: a colour for each VCPU, and two tasks on it.
 fn rows(vcpus: usize, tasks: usize) -> Result<(), Refusal> {
     let vcpu = |row: usize| Vcpu {
@@ -256,7 +276,7 @@ fn documented() -> Vec<(u32, String, RowNames)> {
 }
 
 /// What tells each meaning from the others, in words that the page has too.
-const WORDS: [(u32, &[&str]); 25] = [
+const WORDS: [(u32, &[&str]); 27] = [
     (1, &["domains", "tasks", "input"]),
     (2, &["not 1, 2, 4, 8 or 16"]),
     (3, &["frame", "table", "0 or above 4,096"]),
@@ -268,7 +288,7 @@ const WORDS: [(u32, &[&str]); 25] = [
     (9, &["set is empty, or has a colour outside the grant"]),
     (10, &["page", "index"]),
     (11, &["bleach", "outside the set"]),
-    (12, &["free frame", "set"]),
+    (12, &["free frames in the", "set"]),
     (13, &["move list", "three words", "each move"]),
     (14, &["page to release", "unmapped"]),
     (15, &["10,000", "vcpu words", "none, over 64 or no"]),
@@ -288,6 +308,20 @@ const WORDS: [(u32, &[&str]); 25] = [
         &["quota asked for is 0, above 4,096 or below the frames held"],
     ),
     (28, &["unmapped", "frames held are at or above the quota"]),
+    (
+        31,
+        &[
+            "no multiple of three words",
+            "a page above 4,095",
+            "a frame twice",
+            "new frame lacks the domain's word for the page",
+            "old frame is not a free frame of the former set",
+        ],
+    ),
+    (
+        32,
+        &["frame of the domain would lie outside the former set"],
+    ),
 ];
 
 fn meaning(number: u32) -> String {
@@ -335,7 +369,7 @@ fn no_two_meanings_are_alike() {
 #[test]
 fn rows_name_what_the_page_says() {
     let page = documented();
-    for number in (0..=30).chain([u32::MAX]) {
+    for number in (0..=40).chain([u32::MAX]) {
         let listed = page.iter().find(|(listed, ..)| *listed == number);
         let expected = listed.map_or(RowNames::Nothing, |(.., names)| *names);
         assert_eq!(row_names(number), expected, "{number}");
@@ -345,7 +379,7 @@ fn rows_name_what_the_page_says() {
 /// A row that names something is shown, and how.
 #[test]
 fn rows_are_shown() {
-    for number in 0..=30 {
+    for number in 0..=40 {
         let refusal = Refusal { number, row: 77 };
         let shown = match row_names(number) {
             RowNames::Domain => ", domain 77: ",

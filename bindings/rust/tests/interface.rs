@@ -9,7 +9,7 @@ use juzvanec::*;
 type Call = (&'static str, fn() -> bool);
 
 /// Every safe function that calls the archive.
-const CALLS: [Call; 12] = [
+const CALLS: [Call; 13] = [
     ("cache_colours", || cache_colours(4096, 1).is_ok()),
     ("layout", || layout(1, 1, 0).is_ok()),
     ("bleach", || bleach(1, 1, 0).is_ok()),
@@ -22,6 +22,9 @@ const CALLS: [Call; 12] = [
     }),
     ("recolour", || {
         recolour(&mut board(), &mut [FREE], 0, 1, &mut []).is_ok()
+    }),
+    ("take_back", || {
+        take_back(&mut board(), &mut [FREE], 0, 1, &[]).is_ok()
     }),
     ("part", || part(&[], 0).is_empty()),
     ("admit_plan", || {

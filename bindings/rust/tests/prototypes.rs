@@ -9,7 +9,7 @@ use std::path::{Path, PathBuf};
 use juzvanec::{Board, DOMAINS, TEXT_BYTES};
 
 /// The functions that there were when this was written: a shorter list was not read right.
-const LEAST: usize = 13;
+const LEAST: usize = 14;
 
 #[derive(Clone, Debug, PartialEq)]
 struct Prototype {

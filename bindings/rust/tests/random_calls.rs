@@ -1,6 +1,6 @@
 //! Thousands of random calls through the binding, each held against plain properties: refusals change
 //! nothing, faults and looks agree, no guest gets another's colours or holds more than its quota, moves account
-//! for the table and stand in page order.
+//! for the table and stand in page order, and taken back they leave what was there before.
 
 use std::collections::BTreeSet;
 
@@ -26,9 +26,23 @@ impl Random {
     }
 }
 
+/// What a recolouring is taken back by, and what must be there then.
+struct Former {
+    set: u32,
+    triples: Vec<u16>,
+    frames: Vec<usize>,
+    words: Vec<u16>,
+    /// Whether others alone have called since.
+    untouched: bool,
+}
+
 struct Machine {
     board: Board,
     table: Vec<u16>,
+    /// For each guest, its last recolouring.
+    former: [Option<Former>; 3],
+    /// How often one that had moved frames was taken back with only others' calls between.
+    restored: u32,
 }
 
 impl Machine {
@@ -37,7 +51,26 @@ impl Machine {
         let board = Board::new(8, frames, &[0x13, 0x64, 0x80]);
         let empty = |_| [FREE, FREE, FREE, RESERVED][random.below(4) as usize];
         let table = (0..frames).map(empty).collect();
-        Machine { board, table }
+        Machine {
+            board,
+            table,
+            former: [const { None }; 3],
+            restored: 0,
+        }
+    }
+
+    /// The domain calls: since its recolouring it is no longer others alone.
+    fn touch(&mut self, domain: u32) {
+        if let Some(Some(former)) = self.former.get_mut(domain as usize) {
+            former.untouched = false;
+        }
+    }
+
+    /// The frames that the domain holds, and their words.
+    fn own(&self, domain: u32) -> (Vec<usize>, Vec<u16>) {
+        let words = self.table.iter().copied().enumerate();
+        let own = |word: u16| word != FREE && u32::from((word - 1) / 4096) == domain;
+        words.filter(|(_, word)| own(*word)).unzip()
     }
 
     /// Every frame that a guest holds has a colour of its grant.
@@ -51,8 +84,7 @@ impl Machine {
     }
 
     fn held(&self, domain: u32) -> usize {
-        let own = |word: &&u16| **word != FREE && u32::from((**word - 1) / 4096) == domain;
-        self.table.iter().filter(own).count()
+        self.own(domain).0.len()
     }
 
     /// Whether the domain, if it is one, holds as many frames as it may.
@@ -128,6 +160,7 @@ impl Machine {
 
     fn recolour(&mut self, domain: u32, set: u32, room: usize) {
         let before = (self.board, self.table.clone());
+        let (frames, words) = self.own(domain);
         let mut moves = vec![9; room];
         match recolour(&mut self.board, &mut self.table, domain, set, &mut moves) {
             Err(Refusal { number, .. }) => {
@@ -139,8 +172,92 @@ impl Machine {
                 let (triples, rest) = moves.split_at(MOVE_WORDS * count);
                 assert!(rest.iter().all(|word| *word == 9));
                 self.moved(domain, set, before.1, triples);
+                self.former[domain as usize] = Some(Former {
+                    set: before.0.active[domain as usize],
+                    triples: triples.to_vec(),
+                    frames,
+                    words,
+                    untouched: true,
+                });
             }
         }
+    }
+
+    /// Takes the domain's last recolouring back, if there was one: with the triples as they stand, the other way
+    /// round, without the last, or with one word changed; and to the former set, or any of its grant. Answers the
+    /// number of the refusal, or 0.
+    fn take_back(&mut self, domain: u32, random: &mut Random) -> u32 {
+        let slot = self.former.get_mut(domain as usize);
+        let former = slot.and_then(Option::take);
+        let active = self.board.active.get(domain as usize);
+        let (mut set, mut triples) = match &former {
+            Some(former) => (former.set, former.triples.clone()),
+            None => (*active.unwrap_or(&1), Vec::new()),
+        };
+        let mut as_moved = true;
+        match random.below(8) {
+            0 => {
+                set = random.mostly(256) & self.board.grants.get(domain as usize).unwrap_or(&1);
+                as_moved = false;
+            }
+            1 => {
+                triples.truncate(triples.len().saturating_sub(MOVE_WORDS));
+                as_moved = false;
+            }
+            2 if !triples.is_empty() => {
+                let at = random.below(triples.len() as u64) as usize;
+                triples[at] = random.mostly(60) as u16;
+                as_moved = false;
+            }
+            3 | 4 => {
+                triples = triples
+                    .chunks(MOVE_WORDS)
+                    .rev()
+                    .flatten()
+                    .copied()
+                    .collect();
+            }
+            _ => {}
+        }
+        let before = (self.board, self.table.clone());
+        let list = triples.clone();
+        let reply = take_back(&mut self.board, &mut self.table, domain, set, &triples);
+        assert_eq!(triples, list);
+        match reply {
+            Err(Refusal { number, .. }) => {
+                assert!([8, 9, 31, 32].contains(&number));
+                assert_eq!((self.board, &self.table), (before.0, &before.1));
+                let right = former.is_some_and(|former| as_moved && former.untouched);
+                assert!(!right, "refused {number}, though only others have called");
+                number
+            }
+            Ok(count) => {
+                assert_eq!(MOVE_WORDS * count, triples.len());
+                self.moved_back(domain, set, before, &triples);
+                if let Some(former) = former.filter(|former| as_moved && former.untouched) {
+                    assert_eq!(self.own(domain), (former.frames, former.words));
+                    self.restored += u32::from(count > 0);
+                }
+                0
+            }
+        }
+    }
+
+    /// The triples lead back from the state before to the one now, and no frame lies outside the set.
+    fn moved_back(&self, domain: u32, set: u32, before: (Board, Vec<u16>), triples: &[u16]) {
+        let (mut board, mut table) = before;
+        let mut touched = BTreeSet::new();
+        for triple in triples.chunks_exact(MOVE_WORDS) {
+            let [page, old, new] = [triple[0], triple[1], triple[2]].map(usize::from);
+            assert!(touched.insert(old) && touched.insert(new));
+            assert_eq!(Some(table[new]), page_word(domain, page as u32));
+            assert_eq!(table[old], FREE);
+            table.swap(old, new);
+        }
+        board.active[domain as usize] = set;
+        assert_eq!((board, table), (self.board, self.table.clone()));
+        let (frames, _) = self.own(domain);
+        assert!(frames.iter().all(|frame| set >> (frame % 8) & 1 == 1));
     }
 
     /// The triples lead from the table before to the table now, and stand by page, equal pages by old frame.
@@ -166,25 +283,34 @@ impl Machine {
 fn frames() {
     let mut random = Random(2003);
     let (mut most, mut at_quota) = (0, 0);
+    let (mut taken_back, mut restored) = ([0; 33], 0);
     for _ in 0..300 {
         let mut machine = Machine::new(&mut random);
         for _ in 0..100 {
             let domain = random.mostly(3);
             let page = random.mostly(12);
             let others: Vec<usize> = (0..3).map(|other| machine.held(other)).collect();
-            match random.below(10) {
+            let call = random.below(14);
+            if call < 11 {
+                machine.touch(domain);
+            }
+            match call {
                 0 | 1 => machine.release(domain, page),
                 2 => {
                     let near = machine.held(domain) as u32 + random.below(4) as u32;
                     let quota = [near, near, random.mostly(60), FIRST_QUOTA];
                     machine.set_quota(domain, quota[random.below(4) as usize].wrapping_sub(1));
                 }
-                3 => {
+                3 | 4 => {
                     let grant = machine.board.grants.get(domain as usize).unwrap_or(&1);
                     let set = random.mostly(256) & (grant | random.below(2) as u32);
                     machine.recolour(domain, set, random.below(40) as usize);
                 }
-                _ => machine.fault(domain, page),
+                5..11 => machine.fault(domain, page),
+                _ => {
+                    let number = machine.take_back(domain, &mut random);
+                    taken_back[number as usize] += 1;
+                }
             }
             assert!(machine.apart());
             for other in (0..3).filter(|other| *other != domain) {
@@ -196,9 +322,12 @@ fn frames() {
             }
             most = most.max(machine.held(0));
         }
+        restored += machine.restored;
     }
     assert!(most >= 8, "tables fill up");
     assert!(at_quota > 1000, "{at_quota} times at a quota");
+    assert!(restored > 50, "frames went back {restored} times");
+    assert!([31, 32].iter().all(|number| taken_back[*number] > 50));
 }
 
 /// A laid-out page bleaches back, and its colour is in the set.

@@ -29,7 +29,7 @@ fn frames(
     (refusal.number, refusal.row)
 }
 
-/// 2 to 7, 26 and 8, the same of all six calls.
+/// 2 to 7, 26 and 8, the same of all seven calls.
 #[test]
 fn boards() {
     let spoils: [SpoiltFrames; 14] = [
@@ -61,16 +61,23 @@ fn boards() {
         let recoloured =
             |b: &mut Board, t: &mut [u16], m: &mut [u16]| recolour(b, t, 1, 0x4, m).err();
         assert_eq!(frames(spoil, recoloured), expected);
+        // with a set and a list that are refused after these
+        let taken = |b: &mut Board, t: &mut [u16], m: &mut [u16]| take_back(b, t, 1, 0, m).err();
+        assert_eq!(frames(spoil, taken), expected);
     }
 }
 
-/// 9, 10, 12, 13, 14, 27 and 28.
+/// 9, 10, 12, 13, 14, 27, 28, 31 and 32.
 #[test]
 fn calls() {
     let sound = |_: &mut Board, _: &mut Vec<u16>| {};
     for set in [0, 0x4, 1 << 31] {
         assert_eq!(
             frames(sound, |b, t, m| recolour(b, t, 0, set, m).err()),
+            (9, 0)
+        );
+        assert_eq!(
+            frames(sound, |b, t, m| take_back(b, t, 0, set, m).err()),
             (9, 0)
         );
     }
@@ -97,6 +104,15 @@ fn calls() {
     }
     let at_quota = |board: &mut Board, _: &mut Vec<u16>| board.quotas[0] = 2;
     assert_eq!(frames(at_quota, |b, t, _| fault(b, t, 0, 3).err()), (28, 0));
+    // a list of five words; then none, though frame 1 lies outside the set
+    assert_eq!(
+        frames(sound, |b, t, m| take_back(b, t, 0, 0x1, m).err()),
+        (31, 0)
+    );
+    assert_eq!(
+        frames(sound, |b, t, _| take_back(b, t, 0, 0x1, &[]).err()),
+        (32, 0)
+    );
 }
 
 #[test]
@@ -236,6 +252,10 @@ fn meanings() {
     assert_eq!(
         shown(28, 0),
         "refused 28: the page is unmapped, and the frames held are at or above the quota"
+    );
+    assert_eq!(
+        shown(32, 0),
+        "refused 32: some frame of the domain would lie outside the former set"
     );
     assert_eq!(
         shown(21, 2),

@@ -6,73 +6,66 @@ use native.Mathlib.Omega.{arith}
 use mathlib.Core.Bool.{Bool, true, false, not, true≢false}
 use mathlib.Core.List.{List, [], _∷_}
 use mathlib.Core.Path.{_≡_, refl, sym, ap, _∙_}
-use lib.Dec.{eqb}
+use lib.Dec.{eqb, leb}
 use lib.ListN.{length, set}
 use lib.Seq.{getD-set-other, set-comm}
-use borrow.Author.Tests.{eqb-false, not-true}
+use borrow.Author.Tests.{eqb-false, leb-true, not-true}
 use Rattle.lists.specs.Range.{upto, keep}
 use Rattle.lists.proofs.Split.{cases, and-both}
 use Rattle.lists.proofs.Members as members
 use Rattle.lists.proofs.Filter as filter
 use Rattle.lists.proofs.Same.{one-fewer}
 use Rattle.refusal.specs.Reply.{Answers}
-use Rattle.calls.specs.Table.{State, stateOf, word, inSet, isHeld, framesWith, frees, strays}
+use Rattle.calls.specs.Table.{State, word, wordOf, inSet, isHeld, isStray, framesWith, frees, strays}
 use Rattle.calls.specs.Choices.{nextFrame, without, taken, choices}
 use Rattle.calls.specs.Calls.{Move, pairUp, pairs, earlier, insert, inOrder, move, moveAll, Moved, recolour}
-use Rattle.calls.proofs.Choice.{still-free, each-free}
+use Rattle.calls.proofs.Choice.{Chosen, still-free, each-free, chosen}
 use Rattle.calls.proofs.Recoloured.{recoloured}
-use Rattle.calls.proofs.Moves.{Each, Sorted, Lower, Rising}
+use Rattle.calls.proofs.Moves.{Each, Sorted, Lower, Rising, pair-both}
 use Rattle.calls.proofs.MoveList.{pairs-rise}
-use Rattle.calls.proofs.Targets.{EachFirst, each-target-first}
 use Rattle.calls.proofs.PageOrder.{each-order}
 
--- the new frames of two moves are different
-abbrev Other : Move → Move → Type 0
-Other a b = b .target ≡ a .target → ⊥
+-- no frame of one move is a frame of the other
+pub record Apart (a b : Move) : Type 0 where
+  pub sources : a .source ≡ b .source → ⊥
+  pub targets : a .target ≡ b .target → ⊥
+  pub out-in : a .source ≡ b .target → ⊥
+  pub in-out : a .target ≡ b .source → ⊥
 
-module _ (n c : ℕ) where
-  -- a move from outside the set into it
-  abbrev Into : Move → Type 0
-  Into m = (inSet n c (m .target) ≡ true) × (inSet n c (m .source) ≡ false)
+pub apart-back : (a b : Move) → Apart a b → Apart b a
+apart-back a b h =
+    record { sources = λ e. h .sources (sym e); targets = λ e. h .targets (sym e); out-in = λ e. h .in-out (sym e); in-out = λ e. h .out-in (sym e) }
 
-  from-to : (a b : Move) → Into a → Into b → a .source ≡ b .target → ⊥
-  from-to a b i j e = true≢false (sym (j .0) ∙ rw (← e) (i .1))
+-- such moves may change places
+pub either-first : (t : List ℕ) (a b : Move) → Apart a b → move (move t a) b ≡ move (move t b) a
+either-first t a b h =
+    let v : ℕ = word t (a .source) in
+    let w : ℕ = word t (b .source) in
+    let ta : List ℕ = set t (a .source) 0 in
+    let tb : List ℕ = set t (b .source) 0 in
+    let w-stays : word (move t a) (b .source) ≡ w =
+    getD-set-other ta (a .target) (b .source) v 0 (λ e. h .in-out (sym e)) ∙ getD-set-other t (a .source) (b .source) 0 0 (λ e. h .sources (sym e)) in
+    let v-stays : word (move t b) (a .source) ≡ v =
+    getD-set-other tb (b .target) (a .source) w 0 (h .out-in) ∙ getD-set-other t (b .source) (a .source) 0 0 (h .sources) in
+    rw (w-stays, v-stays)
+    (ap (λ (u : List ℕ). set u (b .target) w) (set-comm ta (a .target) (b .source) v 0 (h .in-out))
+    ∙ ap (λ (u : List ℕ). set (set u (a .target) v) (b .target) w) (set-comm t (a .source) (b .source) 0 0 (h .sources))
+    ∙ set-comm (set tb (a .source) 0) (a .target) (b .target) v w (h .targets)
+    ∙ ap (λ (u : List ℕ). set u (a .target) v) (set-comm tb (a .source) (b .target) 0 w (h .out-in)))
 
-  either-first : (t : List ℕ) (a b : Move) → Lower a b → Other a b → Into a → Into b → move (move t a) b ≡ move (move t b) a
-  either-first t a b rise other i j =
-      let v : ℕ = word t (a .source) in
-      let w : ℕ = word t (b .source) in
-      let apart : a .source ≡ b .source → ⊥ = λ e. lt-irrefl (a .source) (omega (arith, e, rise)) in
-      let ta : List ℕ = set t (a .source) 0 in
-      let tb : List ℕ = set t (b .source) 0 in
-      let w-stays : word (move t a) (b .source) ≡ w =
-      getD-set-other ta (a .target) (b .source) v 0 (from-to b a j i) ∙ getD-set-other t (a .source) (b .source) 0 0 (λ e. apart (sym e)) in
-      let v-stays : word (move t b) (a .source) ≡ v =
-      getD-set-other tb (b .target) (a .source) w 0 (from-to a b i j) ∙ getD-set-other t (b .source) (a .source) 0 0 apart in
-      rw (w-stays, v-stays)
-      (ap (λ (u : List ℕ). set u (b .target) w) (set-comm ta (a .target) (b .source) v 0 (λ e. from-to b a j i (sym e)))
-      ∙ ap (λ (u : List ℕ). set (set u (a .target) v) (b .target) w) (set-comm t (a .source) (b .source) 0 0 apart)
-      ∙ set-comm (set tb (a .source) 0) (a .target) (b .target) v w (λ e. other (sym e))
-      ∙ ap (λ (u : List ℕ). set u (a .target) v) (set-comm tb (a .source) (b .target) 0 w (from-to a b i j)))
+insert-moves : (t : List ℕ) (m : Move) (ms : List Move) → Each (Apart m) ms → moveAll t (insert m ms) ≡ moveAll (move t m) ms
+unfolding insert moveAll
+insert-moves t m [] apart = refl
+insert-moves t m (a ∷ ms) apart =
+    cases (earlier a m)
+    (λ e. rw e (insert-moves (move t a) m ms (apart .1) ∙ ap (λ (u : List ℕ). moveAll u ms) (sym (either-first t m a (apart .0)))))
+    (λ e. rw e)
 
-  insert-moves : (t : List ℕ) (m : Move) (ms : List Move) → Each (Lower m) ms → Each (Other m) ms → Into m → Each Into ms
-      → moveAll t (insert m ms) ≡ moveAll (move t m) ms
-  unfolding insert moveAll
-  insert-moves t m [] rise other i all = refl
-  insert-moves t m (a ∷ ms) rise other i all =
-      cases (earlier a m)
-      (λ e.
-      rw e
-      (insert-moves (move t a) m ms (rise .1) (other .1) i (all .1)
-      ∙ ap (λ (u : List ℕ). moveAll u ms) (sym (either-first t m a (rise .0) (other .0) i (all .0)))))
-      (λ e. rw e)
-
-  order-moves : (t : List ℕ) (ms : List Move) → Rising ms → Sorted Other ms → Each Into ms → moveAll t (inOrder ms) ≡ moveAll t ms
-  unfolding inOrder moveAll
-  order-moves t [] rise other all = refl
-  order-moves t (m ∷ ms) rise other all =
-      insert-moves t m (inOrder ms) (each-order (Lower m) ms (rise .0)) (each-order (Other m) ms (other .0)) (all .0) (each-order Into ms (all .1))
-      ∙ order-moves (move t m) ms (rise .1) (other .1) (all .1)
+order-moves : (t : List ℕ) (ms : List Move) → Sorted Apart ms → moveAll t (inOrder ms) ≡ moveAll t ms
+unfolding inOrder moveAll
+order-moves t [] apart = refl
+order-moves t (m ∷ ms) apart =
+    insert-moves t m (inOrder ms) (each-order (Apart m) ms (apart .0)) ∙ order-moves (move t m) ms (apart .1)
 
 -- no frame is taken twice
 abbrev Once : List ℕ → Type 0
@@ -92,6 +85,10 @@ taken-once n m coloured (suc k) free held l =
       taken-once n m coloured k (without free f) _ room,
     )
 
+-- the new frames of two moves are different
+abbrev Other : Move → Move → Type 0
+Other a b = b .target ≡ a .target → ⊥
+
 targets-other : (d f : ℕ) (t vs gs : List ℕ) → members.Each (λ (g : ℕ). g ≡ f → ⊥) gs → Each (λ m. m .target ≡ f → ⊥) (pairUp d t vs gs)
 unfolding pairUp
 targets-other d f t [] gs h = tt
@@ -104,17 +101,68 @@ pairs-other d t [] gs h = tt
 pairs-other d t (v ∷ vs) [] h = tt
 pairs-other d t (v ∷ vs) (g ∷ gs) h = (targets-other d g t vs gs (h .0), pairs-other d t vs gs (h .1))
 
-each-into : (s : State) (d c : ℕ) (ms : List Move) → EachFirst s d c ms → Each (Into (s .board .colours) c) ms
-each-into s d c [] r = tt
-each-into s d c (m ∷ ms) r = ((r .0 .choice .inside, r .1), each-into (stateOf (s .board) (move (s .table) m)) d c ms (r .2))
+-- what a chosen move has: it leads from a frame that the domain holds for the page, outside the set, to a free one inside it
+pub record Leads (s : State) (d c : ℕ) (m : Move) : Type 0 where
+  pub from-frame : m .source < s .board .frames
+  pub to-frame : m .target < s .board .frames
+  pub small : m .page ≤ 4095
+  pub held : word (s .table) (m .source) ≡ wordOf d (m .page)
+  pub free : word (s .table) (m .target) ≡ 0
+  pub outside : inSet (s .board .colours) c (m .source) ≡ false
+  pub inside : inSet (s .board .colours) c (m .target) ≡ true
+
+module _ (s : State) (d c : ℕ) (coloured : 0 < s .board .colours) where
+  pub pairs-lead : Each (Leads s d c) (pairs s d c)
+  unfolding strays framesWith
+  pairs-lead =
+      let stray : ℕ → Bool = isStray (s .table) (s .board .colours) d c in
+      pair-both d (s .table) (Leads s d c) (λ v. (v < s .board .frames) × (stray v ≡ true)) (Chosen s c)
+      (λ v g q r.
+      let w : ℕ = word (s .table) v in
+      let o = and-both (isHeld (s .table) d v) _ (q .1) in
+      let own = and-both (leb (wordOf d 0) w) (leb w (wordOf d 4095)) (o .0) in
+      let low = leb-true (wordOf d 0) w (own .0) in
+      let high = leb-true w (wordOf d 4095) (own .1) in
+      record {
+        from-frame = q .0;
+        to-frame = r .below;
+        small = omega arith;
+        held = omega arith;
+        free = r .free;
+        outside = not-true _ (o .1);
+        inside = r .inside;
+      })
+      (strays s d c) (choices s d c) (filter.kept stray (s .board .frames)) (chosen s d c coloured)
+
+  from-to : (a b : Move) → Leads s d c a → Leads s d c b → a .source ≡ b .target → ⊥
+  from-to a b i j e = true≢false (sym (j .inside) ∙ rw (← e) (i .outside))
+
+  -- two of them have no frame in common
+  apart-each : (m : Move) (ms : List Move) → Each (Lower m) ms → Each (Other m) ms → Leads s d c m → Each (Leads s d c) ms → Each (Apart m) ms
+  apart-each m [] rise other i all = tt
+  apart-each m (a ∷ ms) rise other i all = (
+    record {
+      sources = λ e. lt-irrefl (m .source) (omega (arith, e, rise .0));
+      targets = λ e. other .0 (sym e);
+      out-in = from-to m a i (all .0);
+      in-out = λ e. from-to a m (all .0) i (sym e);
+    },
+    apart-each m ms (rise .1) (other .1) i (all .1),
+  )
+
+  apart-all : (ms : List Move) → Rising ms → Sorted Other ms → Each (Leads s d c) ms → Sorted Apart ms
+  apart-all [] rise other all = tt
+  apart-all (m ∷ ms) rise other all = (apart-each m ms (rise .0) (other .0) (all .0) (all .1), apart-all ms (rise .1) (other .1) (all .1))
+
+  pub pairs-apart : Sorted Apart (pairs s d c)
+  unfolding choices frees framesWith
+  pairs-apart =
+      let once = taken-once (s .board .colours) (s .board .frames) coloured (length (frees s c)) _ (isHeld (s .table) d) (le-refl _) in
+      apart-all (pairs s d c) (pairs-rise s d c) (pairs-other d (s .table) (strays s d c) (choices s d c) once) pairs-lead
 
 -- the moves of the list, one after the other, leave the table of the call
 pub table-by-list : (s : State) (d c : ℕ) (lent : List ℕ) (n : ℕ) → recolour s d c lent .reply ≡ Answers (Moved n)
     → moveAll (s .table) (recolour s d c lent .moves) ≡ recolour s d c lent .next .table
-unfolding choices frees framesWith
 table-by-list s d c lent n e =
     let r = recoloured s d c lent n e in
-    let once = taken-once (s .board .colours) (s .board .frames) (r .coloured) (length (frees s c)) _ (isHeld (s .table) d) (le-refl _) in
-    rw (r .moves, r .table)
-    (order-moves (s .board .colours) c (s .table) (pairs s d c) (pairs-rise s d c) (pairs-other d (s .table) (strays s d c) (choices s d c) once)
-    (each-into s d c (pairs s d c) (each-target-first s d c lent n e)))
+    rw (r .moves, r .table) (order-moves (s .table) (pairs s d c) (pairs-apart s d c (r .coloured)))

@@ -1,4 +1,5 @@
 -- The laws of the choice of a free frame, of the replies of calls, of the moves of a recolouring and their list, and of the one pass of a fault.
+pub mod Words
 pub mod InColour
 pub mod Choice
 pub mod OneByOne
@@ -6,12 +7,15 @@ pub mod Settled
 pub mod NewFrame
 pub mod Quotas
 pub mod Recoloured
+pub mod TakenBack
 pub mod Targets
 pub mod Moves
 pub mod Places
 pub mod PageOrder
 pub mod MoveList
 pub mod AnyOrder
+pub mod Inside
+pub mod Undone
 pub mod Placed
 pub mod Lanes
 pub mod OnePass

@@ -20,7 +20,7 @@ pub pairs-rise : (s : State) (d c : ℕ) → Rising (pairs s d c)
 unfolding strays framesWith
 pairs-rise s d c = pair-rising (isStray (s .table) (s .board .colours) d c) d (s .table) (s .board .frames) 0 (choices s d c)
 
-triple-count : (ms : List Move) → length (triples ms) ≡ 3 * length ms
+pub triple-count : (ms : List Move) → length (triples ms) ≡ 3 * length ms
 unfolding triples
 triple-count [] = refl
 triple-count (m ∷ ms) = omega (arith, triple-count ms)

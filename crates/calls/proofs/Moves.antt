@@ -48,6 +48,15 @@ pair-each d t P Q f [] gs h = tt
 pair-each d t P Q f (v ∷ vs) [] h = tt
 pair-each d t P Q f (v ∷ vs) (g ∷ gs) h = (f v g (h .0), pair-each d t P Q f vs gs (h .1))
 
+-- and by both its frames
+pub pair-both : (d : ℕ) (t : List ℕ) (P : Move → Type 0) (Q R : ℕ → Type 0)
+    → ((v g : ℕ) → Q v → R g → P (record { page = pageFor d (word t v); source = v; target = g }))
+    → (vs gs : List ℕ) → members.Each Q vs → members.Each R gs → Each P (pairUp d t vs gs)
+unfolding pairUp
+pair-both d t P Q R f [] gs h k = tt
+pair-both d t P Q R f (v ∷ vs) [] h k = tt
+pair-both d t P Q R f (v ∷ vs) (g ∷ gs) h k = (f v g (h .0) (k .0), pair-both d t P Q R f vs gs (h .1) (k .1))
+
 -- the old frames are those of a range that pass a test
 module _ (q : ℕ → Bool) (d : ℕ) (t : List ℕ) where
   kept-above : (k i : ℕ) → members.Each (λ (v : ℕ). i < v) (keep q (from (suc i) k))

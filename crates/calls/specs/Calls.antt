@@ -1,5 +1,5 @@
--- The six calls, for every board, table and argument: reply, moves, board and table afterwards. Document 01, refusals 2 to 14; the order of the
--- moves is document 02, No. 4, the quota with refusals 26 to 28 its No. 6.
+-- The calls, for every board, table and argument: reply, moves, board and table afterwards. Document 01, refusals 2 to 14; the order of the
+-- moves is document 02, No. 4, the quota with refusals 26 to 28 its No. 6. The seventh call, take back, has a file of its own (TakeBack).
 use Prim.Native.Nat.{ℕ, _*_}
 use mathlib.Core.Bool.{Bool, _&&_, _||_}
 use mathlib.Core.List.{List, [], _∷_, _++_}
@@ -25,7 +25,7 @@ pub data Answer : Type 0 where
   Freed : ℕ → Answer
   -- colours: the active set and the quota
   Active : ℕ → ℕ → Answer
-  -- recolour: the count of moves
+  -- recolour and take back: the count of moves
   Moved : ℕ → Answer
   -- set quota: the quota that is now set
   Quota : ℕ → Answer

@@ -21,11 +21,11 @@ use Rattle.examples.specs.Example.{sameList, numbers}
 use Rattle.examples.specs.Table.{recorder}
 use Rattle.claims.specs.Looks.{LookAlike, ColoursAlike, MapsAlike, faulted, nothing, straight, roundabout, recoloured, allowed, LookClaims}
 
-accepted : Accepted recorder
+pub accepted : Accepted recorder
 unfolding from keep each passes isColourSet has isColourCount domainTests boardTests
 accepted = refl
 
-empty : Empty recorder
+pub empty : Empty recorder
 empty f h = inl (getD-replicate 8 f 0 0 h)
 
 -- whether a reply says so, as numbers

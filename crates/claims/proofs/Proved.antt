@@ -28,6 +28,7 @@ use Rattle.claims.proofs.Looks.{look-claims}
 use Rattle.claims.proofs.EvenUse.{even-use-claims}
 use Rattle.claims.proofs.PageOrder.{page-order-claims}
 use Rattle.claims.proofs.Quotas.{quota-claims}
+use Rattle.claims.proofs.TakingBack.{taking-back-claims}
 use Rattle.claims.proofs.Reload.{reloaded-counts}
 use Rattle.claims.proofs.Rounds as reached
 
@@ -129,6 +130,7 @@ interface-claims =
       one-word = lent.one-word;
       quota-word = lent.quota-word;
       words-stand = lent.words-stand;
+      words-stand-again = lent.words-stand-again;
       first-bytes-tell = first-bytes-tell;
     }
 
@@ -142,6 +144,7 @@ claims =
       even-use = even-use-claims;
       page-order = page-order-claims;
       quotas = quota-claims;
+      taking-back = taking-back-claims;
       one-pass = one-pass-claims;
       supply = supply-claims;
       times = time-claims;

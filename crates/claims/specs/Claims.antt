@@ -10,6 +10,7 @@ use Rattle.claims.specs.Looks.{LookClaims}
 use Rattle.claims.specs.EvenUse.{EvenUseClaims}
 use Rattle.claims.specs.PageOrder.{PageOrderClaims}
 use Rattle.claims.specs.Quotas.{QuotaClaims}
+use Rattle.claims.specs.TakingBack.{TakingBackClaims}
 use Rattle.claims.specs.OnePass.{OnePassClaims}
 use Rattle.claims.specs.Times.{SupplyClaims, TimeClaims}
 use Rattle.claims.specs.Reload.{ReloadClaims}
@@ -31,6 +32,8 @@ pub record Claims : Type 0 where
   pub page-order : PageOrderClaims
   -- What holds of quotas: document 02, No. 6.
   pub quotas : QuotaClaims
+  -- Taking a recolouring back: document 02, No. 10.
+  pub taking-back : TakingBackClaims
   -- A fault goes over the table once: document 02, No. 2.
   pub one-pass : OnePassClaims
   -- The supply of a periodic resource, and what a planner relies on.

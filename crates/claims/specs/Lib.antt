@@ -1,10 +1,11 @@
--- The page of claims: everything that is claimed beyond the contracts of the functions, in eleven groups, and all of them as one type.
+-- The page of claims: everything that is claimed beyond the contracts of the functions, in twelve groups, and all of them as one type.
 pub mod Colours
 pub mod Histories
 pub mod Looks
 pub mod EvenUse
 pub mod PageOrder
 pub mod Quotas
+pub mod TakingBack
 pub mod OnePass
 pub mod Times
 pub mod Reload

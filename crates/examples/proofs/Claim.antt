@@ -8,6 +8,7 @@ use Rattle.board.specs.Tests.{badQuotas, domainTests, boardTests, stateTests, c
 use Rattle.calls.specs.Table.{framesWith, mappedTo, frees, framesHeld, strays}
 use Rattle.calls.specs.Choices.{inColour, nextColour, nextFrame, taken, choices}
 use Rattle.calls.specs.Calls.{settle, called, look, fault, release, colours, pairUp, insert, inOrder, moveAll, recolour, setQuota, triples}
+use Rattle.calls.specs.TakeBack.{moveList, anyMove, framesNamed, twice, backward, takeBack}
 use Rattle.isolation.specs.DomainRule.{run}
 use Rattle.colours.specs.Sets.{isColourSet, has, coloursBelow, colourAt, placeOf}
 use Rattle.colours.specs.Cache.{isColourCount, cacheReply}
@@ -31,6 +32,7 @@ unfolding
     isColourSet has coloursBelow colourAt placeOf isColourCount cacheReply layoutPage layoutReply bleachIndex bleachReply dropBits equationOne
     badQuotas domainTests boardTests stateTests callTests framesWith mappedTo frees framesHeld strays inColour nextColour nextFrame taken choices
     settle called look fault release colours pairUp insert inOrder moveAll recolour setQuota triples run
+    moveList anyMove framesNamed twice backward takeBack
     supply cost heldFrom reloadedSet reloaded charge partStart partEnd rowsFrom partOf rowTests planTests
     firstFrom firstTime arrivals need taskNeed timeInPart taskTime vcpuCharge vcpuNeed vcpuTime
     covering roundsFrom rounds roundsInPart taskRounds vcpuRounds roundsBound taskBound vcpuBound

@@ -66,7 +66,7 @@ sameList [] (y ∷ ys) = false
 sameList (x ∷ xs) [] = false
 sameList (x ∷ xs) (y ∷ ys) = eqb x y && sameList xs ys
 
--- a reply of the six calls as numbers: which answer it is, and its numbers
+-- a reply of the seven calls as numbers: which answer it is, and its numbers
 unfoldable pub numbers : Reply Answer → List ℕ
 numbers (Answers (Mapped f)) = 1 ∷ f ∷ []
 numbers (Answers Unmapped) = 2 ∷ []

@@ -7,8 +7,8 @@ use Rattle.refusal.specs.Reply.{Answers, Refuses}
 use Rattle.board.specs.declared.Board.{Board}
 use Rattle.board.specs.Tests.{firstQuotas}
 use Rattle.calls.specs.Table.{State}
-use Rattle.calls.specs.Calls.{Move, Old, New, Active, Moved, Quota}
-use Rattle.isolation.specs.DomainRule.{Call, Look, Fault, Release, Colours, Recolour, SetQuota}
+use Rattle.calls.specs.Calls.{Move, Mapped, Old, New, Active, Moved, Quota}
+use Rattle.isolation.specs.DomainRule.{Call, Look, Fault, Release, Colours, Recolour, SetQuota, TakeBack}
 use Rattle.times.specs.First.{At}
 use Rattle.examples.specs.Example.{Example, Cache, Layout, Bleach, Drop, Equation, Reply-after, Moves-of, List-after, Table-after, Supply, Vcpu-time, Task-time, Vcpu-rounds, Task-rounds, Reloads, Pairwise-time, Admission}
 
@@ -41,6 +41,13 @@ to-one-colour = Recolour 1 0x4 (0 ∷ 0 ∷ 0 ∷ 0 ∷ 0 ∷ 0 ∷ [])
 
 abbrev pub then-narrowed : List Call
 then-narrowed = allotted ++ (to-one-colour ∷ [])
+
+-- others' calls after the recolouring; and the taking back, by the triple that was written and the set that was active before
+abbrev pub then-others : List Call
+then-others = then-recoloured ++ (Fault 1 3 ∷ SetQuota 1 2 ∷ [])
+
+abbrev pub taken-back : Call
+taken-back = TakeBack 0 0x3 (1 ∷ 1 ∷ 4 ∷ [])
 
 -- the same board with other quotas of domains 0, 1 and 2, the last beyond the count; and a table on which domain 0 holds five frames, two of them for one
 -- page and two outside its grant
@@ -84,6 +91,9 @@ uneven = alone 0xF (8 ∷ 1 ∷ 0 ∷ 6 ∷ 0 ∷ 2 ∷ 0 ∷ 65535 ∷ 7 ∷ 0 
 
 abbrev pub to-the-middle : Call
 to-the-middle = Recolour 0 0x6 (0 ∷ 0 ∷ 0 ∷ 0 ∷ 0 ∷ 0 ∷ 0 ∷ 0 ∷ 0 ∷ [])
+
+abbrev pub from-the-middle : Call
+from-the-middle = TakeBack 0 0xF (7 ∷ 0 ∷ 2 ∷ 5 ∷ 3 ∷ 9 ∷ 6 ∷ 8 ∷ 6 ∷ [])
 
 -- a page in two frames, 4 and 7, and one each in frames 0 and 11, all of them outside colours 1 and 2; of these frames 2 and 6 are reserved
 abbrev pub page-twice : State
@@ -216,6 +226,47 @@ examples =
     ∷ Reply-after (with-quotas 4097 1 1) [] (Look 7 0) (Refuses 26 0)
     ∷ Reply-after (with-quotas 4096 1 0) [] (Colours 1) (Answers (Active 0xC 1))
     ∷ Admission planned-without-quota 100 whole-core (two-tasks 3000) 3 (Answers tt)
+    -- document 02, No. 10: after document 01's recolouring, whatever domain 1 does, page 1 goes back from frame 4 to frame 1, and 0x3 is active again. The
+    -- list is only read, and the quota plays no part
+    ∷ Table-after recorder then-others (10 ∷ 0 ∷ 4097 ∷ 4100 ∷ 2 ∷ 0 ∷ 0 ∷ 0 ∷ [])
+    ∷ Reply-after recorder then-others (Colours 0) (Answers (Active 0x1 4096))
+    ∷ Reply-after recorder then-others taken-back (Answers (Moved 1))
+    ∷ List-after recorder then-others taken-back (1 ∷ 1 ∷ 4 ∷ [])
+    ∷ Moves-of recorder then-others taken-back []
+    ∷ Table-after recorder (then-others ++ (taken-back ∷ [])) (10 ∷ 2 ∷ 4097 ∷ 4100 ∷ 0 ∷ 0 ∷ 0 ∷ 0 ∷ [])
+    ∷ Reply-after recorder (then-others ++ (taken-back ∷ [])) (Colours 0) (Answers (Active 0x3 4096))
+    ∷ Reply-after recorder (then-others ++ (taken-back ∷ [])) (Look 0 1) (Answers (Mapped 1))
+    ∷ Reply-after recorder (then-recoloured ++ (SetQuota 0 2 ∷ [])) taken-back (Answers (Moved 1))
+    -- once more, and frame 4 has no word for page 1
+    ∷ Reply-after recorder (then-others ++ (taken-back ∷ [])) taken-back (Refuses 31 0)
+    -- the triples may stand in any order, and a page may have the number of a frame; an empty list moves nothing; page 4,095 is a page
+    ∷ Reply-after uneven (to-the-middle ∷ []) from-the-middle (Answers (Moved 3))
+    ∷ Table-after uneven (to-the-middle ∷ from-the-middle ∷ []) (8 ∷ 1 ∷ 0 ∷ 6 ∷ 0 ∷ 2 ∷ 0 ∷ 65535 ∷ 7 ∷ 0 ∷ 3 ∷ 0 ∷ [])
+    ∷ Reply-after recorder then-others (TakeBack 0 0x3 []) (Answers (Moved 0))
+    ∷ Reply-after recorder (then-others ++ (TakeBack 0 0x3 [] ∷ [])) (Colours 0) (Answers (Active 0x3 4096))
+    ∷ Reply-after recorder (Fault 0 4095 ∷ []) (TakeBack 0 0x2 (4095 ∷ 1 ∷ 0 ∷ [])) (Answers (Moved 1))
+    -- words that are no triples; page 4,096, whose word is that of domain 1 for page 0; frame 8, which is F; an old frame that is held or outside the former
+    -- set; a new frame with another page
+    ∷ Reply-after recorder then-others (TakeBack 0 0x3 (1 ∷ 1 ∷ [])) (Refuses 31 0)
+    ∷ Reply-after recorder then-others (TakeBack 0 0x3 (1 ∷ 1 ∷ 4 ∷ 9 ∷ [])) (Refuses 31 0)
+    ∷ Reply-after recorder then-others (TakeBack 0 0x3 (4096 ∷ 1 ∷ 2 ∷ [])) (Refuses 31 0)
+    ∷ Reply-after recorder then-others (TakeBack 0 0x3 (1 ∷ 8 ∷ 4 ∷ [])) (Refuses 31 0)
+    ∷ Reply-after recorder then-others (TakeBack 0 0x3 (1 ∷ 1 ∷ 8 ∷ [])) (Refuses 31 0)
+    ∷ Reply-after recorder then-others (TakeBack 0 0x3 (1 ∷ 0 ∷ 4 ∷ [])) (Refuses 31 0)
+    ∷ Reply-after recorder then-others (TakeBack 0 0x1 (1 ∷ 1 ∷ 4 ∷ [])) (Refuses 31 0)
+    ∷ Reply-after recorder then-others (TakeBack 0 0x3 (9 ∷ 1 ∷ 4 ∷ [])) (Refuses 31 0)
+    -- frame 1 twice, of two triples that fit; frame 4 twice
+    ∷ Reply-after recorder then-others (TakeBack 0 0x3 (1 ∷ 1 ∷ 4 ∷ 9 ∷ 1 ∷ 0 ∷ [])) (Refuses 31 0)
+    ∷ Reply-after recorder then-others (TakeBack 0 0x3 (1 ∷ 1 ∷ 4 ∷ 1 ∷ 5 ∷ 4 ∷ [])) (Refuses 31 0)
+    -- frame 0 would lie outside 0x2. It may be moved too: 32 looks after the moves
+    ∷ Reply-after recorder then-others (TakeBack 0 0x2 (1 ∷ 1 ∷ 4 ∷ [])) (Refuses 32 0)
+    ∷ Reply-after recorder then-others (TakeBack 0 0x2 (1 ∷ 1 ∷ 4 ∷ 9 ∷ 5 ∷ 0 ∷ [])) (Answers (Moved 2))
+    -- 26 and 8 before 9, 9 before 31, 31 before 32
+    ∷ Reply-after (with-quotas 4096 0 1) [] (TakeBack 2 0 (1 ∷ [])) (Refuses 26 0)
+    ∷ Reply-after recorder then-others (TakeBack 2 0 (1 ∷ [])) (Refuses 8 0)
+    ∷ Reply-after recorder then-others (TakeBack 0 0x4 (1 ∷ [])) (Refuses 9 0)
+    ∷ Reply-after recorder then-others (TakeBack 0 0 (1 ∷ [])) (Refuses 9 0)
+    ∷ Reply-after recorder then-others (TakeBack 0 0x2 (1 ∷ [])) (Refuses 31 0)
     -- document 02, No. 9, in document 01's examples by the millisecond: the round that ends the search counts, at the time or past the deadline, and with
     -- cost 1 under full supply it is the only one
     ∷ Vcpu-rounds (vcpu 10 10) 0 2 2

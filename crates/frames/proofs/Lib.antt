@@ -16,4 +16,10 @@ pub mod PageCounts
 pub mod Turn
 pub mod Passes
 pub mod Recolours
+pub mod TripleWords
+pub mod Marks
+pub mod MovedBack
+pub mod Checking
+pub mod TakesBack
+pub mod TakeBackCalls
 pub mod Walk

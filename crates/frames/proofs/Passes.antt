@@ -48,6 +48,10 @@ module _ (t : List ℕ) (d : ℕ) (most : length t ≤ 4096) (low : d < 8) where
   pub surveyed-is : (first : ℕ) → first ≡ wordOf d 0 → surveyOf (atMost 61440 first) (read t) ≡ surveyOf (wordOf d 0) t
   surveyed-is first f = rw (f, first-is, all-read) refl
 
+  -- the domain's words alone, by lane
+  pub lanes-are : (first : ℕ) → first ≡ wordOf d 0 → countAll (isOwn (atMost 61440 first)) zeros 0 (read t) ≡ countAll (isOwn (wordOf d 0)) zeros 0 t
+  lanes-are first f = rw (f, first-is, all-read) refl
+
   module _ (n c : ℕ) (ok : isColourCount n ≡ true) where
     abbrev m : ℕ
     m = length t

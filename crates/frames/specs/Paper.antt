@@ -1,4 +1,4 @@
--- The answers of the six calls in document 01's numbers: for each case what the paper calls it, or the refusal's number and row.
+-- The answers of the seven calls in document 01's numbers: for each case what the paper calls it, or the refusal's number and row.
 use Rattle.refusal.specs.Reply.{Reply, Answers, Refuses}
 use Rattle.calls.specs.Calls.{Answer, Mapped, Unmapped, Old, New, Freed, Active, Moved, Quota}
 use Rattle.frames.specs.declared.mapping.Looked.{Looked}

@@ -1,4 +1,4 @@
-// The six calls on the frame table: document 01, "Board and frame table" and refusals 2 to 14, and 02, No. 6. What
+// The seven calls on the frame table: document 01, "Board and frame table" and refusals 2 to 14, and 02, Nos. 6 and 10. What
 // they mean is said in `calls`; this crate runs them on a lent table and a board by value, which set_quota
 // alone is lent. No public function here requires anything of its caller.
 mod choosing;
@@ -8,6 +8,7 @@ mod ordering;
 mod quotas;
 mod recolouring;
 mod scan;
+mod taking_back;
 
 pub use mapping::Faulted;
 pub use mapping::Looked;
@@ -24,3 +25,4 @@ pub use recolouring::Moved;
 pub use recolouring::Recoloured;
 pub use recolouring::colours;
 pub use recolouring::recolour;
+pub use taking_back::take_back;

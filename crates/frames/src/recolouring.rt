@@ -37,7 +37,7 @@ pub struct Recoloured {
     pub answer: Moved,
 }
 
-fn with_active(board: Board, domain: u32, set: u32) -> Board
+pub(crate) fn with_active(board: Board, domain: u32, set: u32) -> Board
     requires { ⌜ domain < 8 ⌝ }
     ensures { λ r. ⌜ r ≡ withActive board domain set ⌝ }
 {
@@ -60,7 +60,7 @@ pub fn colours(board: Board, table: &[u16], domain: u32) -> ActiveColours
 }
 
 // Refusals 2 to 8, 26 and 9.
-fn check_set(board: Board, words: usize, domain: u32, set: u32) -> Checked
+pub(crate) fn check_set(board: Board, words: usize, domain: u32, set: u32) -> Checked
     ensures { λ r. ⌜ paperChecked r ≡ setReply board words domain set ⌝ }
 {
     if let Checked::Refused(refusal) = check_call(board, words, domain) {

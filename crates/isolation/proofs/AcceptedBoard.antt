@@ -6,10 +6,9 @@ use mathlib.Core.List.{List}
 use mathlib.Core.Path.{_≡_, sym}
 use lib.Bits.{bitAnd}
 use lib.Dec.{eqb}
-use lib.ListN.{length, getD, set, List·getD-eq-default}
-use lib.Seq.{getD-set-same, getD-set-other}
-use borrow.Author.Tests.{eqb-true, eqb-false, not-false}
-use Rattle.lists.proofs.Split.{cases, neither, below-or-not}
+use lib.ListN.{length, getD, set}
+use borrow.Author.Tests.{eqb-true, not-false}
+use Rattle.lists.proofs.Split.{cases, neither}
 use Rattle.lists.proofs.Found.{any-none}
 use Rattle.colours.specs.Sets.{has}
 use Rattle.colours.proofs.Ranges.{count-range}
@@ -18,6 +17,7 @@ use Rattle.board.specs.declared.Board.{Board}
 use Rattle.board.specs.Tests.{grant, emptyOrOutside}
 use Rattle.board.proofs.Passed.{Passed, split, join, sized}
 use Rattle.calls.specs.Table.{State, stateOf}
+use Rattle.calls.proofs.Recoloured.{active-placed, active-still}
 use Rattle.isolation.specs.DomainRule.{Accepted}
 
 -- What calls change of a state: the active sets and the quotas of its board, and its table. The rest of the board is as at the start, after any
@@ -93,12 +93,6 @@ module _ (b : Board) (x : Live) (ok : Accepted (at b x)) where
       let zero = eqb-true _ _ (not-false (eqb (bitAnd (grant b d) (grant b e)) 0) (rw q at none)) in
       absurd (apart-has (grant b d) (grant b e) c zero kd ke))
 
-  -- the set is not 0, which it would be past the end of the list
-  has-place : (d : ℕ) → d < b .domains → d < length (x .active)
-  has-place d h =
-      below-or-not d (length (x .active)) (λ l. l)
-      (λ l. absurd (eqb-false (setOf x d) 0 (neither _ _ (passed .actives d h) .0) (List·getD-eq-default (x .active) 0 l)))
-
   pub facts : Facts b x
   facts =
       let z = sized (at b x .board) (length (x .table)) passed in
@@ -108,20 +102,9 @@ module _ (b : Board) (x : Live) (ok : Accepted (at b x)) where
         few = z .few;
         disjoint = grants-apart;
         inside = λ d h. set-inside b d (setOf x d) (passed .actives d h);
-        placed = has-place;
+        placed = λ d h. active-placed (at b x .board) (length (x .table)) d passed h;
       }
 
   -- it stays accepted with another set of a domain that is not refused
   pub still : (d c : ℕ) → d < b .domains → emptyOrOutside (grant b d) c ≡ false → Accepted (at b (withSet x d c))
-  still d c h fine =
-      join (at b (withSet x d c) .board) (length (x .table)) (record {
-        count = passed .count;
-        frames = passed .frames;
-        domains = passed .domains;
-        grants = passed .grants;
-        shared = passed .shared;
-        actives = λ e l.
-            cases (eqb e d)
-            (λ q. rw (eqb-true e d q, getD-set-same (x .active) d c 0 (has-place d h)) fine)
-            (λ q. rw (getD-set-other (x .active) d e c 0 (eqb-false e d q)) (passed .actives e l));
-      })
+  still d c h fine = join (at b (withSet x d c) .board) (length (x .table)) (active-still (at b x .board) (length (x .table)) d passed h c fine)

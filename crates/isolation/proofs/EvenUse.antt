@@ -9,7 +9,7 @@ use mathlib.Core.Path.{_≡_, refl, sym, _∙_}
 use lib.Dec.{eqb}
 use lib.ListN.{length, set}
 use lib.Seq.{getD-set-other}
-use borrow.Author.Tests.{eqb-true, eqb-false, le-leb}
+use borrow.Author.Tests.{eqb-true, eqb-false}
 use Rattle.lists.specs.Range.{headOr, isEmpty}
 use Rattle.lists.proofs.Split.{cases}
 use Rattle.refusal.specs.Reply.{Answers, Test, unless, passes}
@@ -19,9 +19,11 @@ use Rattle.board.specs.Tests.{activeSet}
 use Rattle.calls.specs.Table.{State, word, wordOf, isOf, hasWord, isHeld, mappedTo}
 use Rattle.calls.specs.Choices.{choices}
 use Rattle.calls.specs.Calls.{Done, settle, called, written, look, faultDone, fault, release, colours, recolour, setQuota}
+use Rattle.calls.specs.TakeBack.{takeBack}
+use Rattle.calls.proofs.Words.{page-word}
 use Rattle.calls.proofs.InColour.{none-counts, same-count, no-fewer-count, one-fewer-count}
 use Rattle.calls.proofs.Choice.{First, first}
-use Rattle.isolation.specs.DomainRule.{Call, Look, Fault, Release, Colours, Recolour, SetQuota, names, outcome, run, Accepted, Empty}
+use Rattle.isolation.specs.DomainRule.{Call, Look, Fault, Release, Colours, Recolour, SetQuota, TakeBack, names, outcome, run, Accepted, Empty}
 use Rattle.isolation.specs.EvenUse.{freedOrMoved, KeptAll, isActive, freeIn, heldIn, Even, EvenUse}
 use Rattle.isolation.proofs.AcceptedBoard.{Live, at, setOf}
 use Rattle.isolation.proofs.TestLists.{called-one, small-page}
@@ -81,7 +83,7 @@ wrote-even s d g w long r own even x y ax ay some =
     let same = same-count n m (isHeld t′ d) (isHeld t d) y (λ f l q. other f (λ z. eqb-false (g % n) y e (rw (← z) q))) in
     omega (arith, same, even x y ax ay had))
 
--- a release or a recolouring was done, or its reply is a refusal
+-- a release, a recolouring or a taking back was done, or its reply is a refusal
 refused-even : (s : State) (d : ℕ) (ts : List Test) (done : Done) → freedOrMoved (Answers (done .answer)) ≡ true
     → freedOrMoved (settle s (unless ts done) .reply) ≡ false → Even d s → Even d (settle s (unless ts done) .next)
 unfolding settle unless
@@ -107,7 +109,7 @@ module _ {b : Board} {t₀ : List ℕ} {x : Live} (inv : Inv b t₀ x) (d : ℕ)
   fault-done p small (f ∷ ms) gs r some = even
   fault-done p small [] gs r some =
       wrote-even (at b x) d (headOr 0 gs) (wordOf d p) (known inv .long) (r some)
-      (rw (le-leb (wordOf d 0) (wordOf d p) (omega arith), le-leb (wordOf d p) (wordOf d 4095) (omega arith))) even
+      (page-word d p small) even
 
   fault-even : (p : ℕ) → Even d (fault (at b x) d p .next)
   unfolding fault
@@ -125,6 +127,10 @@ module _ {b : Board} {t₀ : List ℕ} {x : Live} (inv : Inv b t₀ x) (d : ℕ)
   unfolding recolour called
   recolour-even c lent undone = refused-even (at b x) d _ _ refl undone even
 
+  take-back-even : (c : ℕ) (list : List ℕ) → freedOrMoved (takeBack (at b x) d c list .reply) ≡ false → Even d (takeBack (at b x) d c list .next)
+  unfolding takeBack called
+  take-back-even c list undone = refused-even (at b x) d _ _ refl undone even
+
   quota-even : (q : ℕ) → Even d (setQuota (at b x) d q .next)
   unfolding setQuota
   quota-even q = under _ _ (λ ok. even)
@@ -137,6 +143,7 @@ own-even (good inv) (Release d p) even undone = release-even inv d even p undone
 own-even (good inv) (Colours d) even undone = colours-even inv d even
 own-even (good inv) (Recolour d c lent) even undone = recolour-even inv d even c lent undone
 own-even (good inv) (SetQuota d q) even undone = quota-even inv d even q
+own-even (good inv) (TakeBack d c list) even undone = take-back-even inv d even c list undone
 
 -- each call, whosever it is, and so each history
 module _ {b : Board} {t₀ : List ℕ} {d : ℕ} (below : d < b .domains) where

@@ -8,11 +8,11 @@ use mathlib.Core.Path.{_≡_, refl, sym, ap, _∙_}
 use lib.Dec.{leb}
 use lib.ListN.{length}
 use borrow.Author.Tests.{eqb-true, eqb-false, leb-true}
-use Rattle.lists.proofs.Split.{cases, and-both}
+use Rattle.lists.proofs.Split.{cases, and-both, and-never}
 use Rattle.lists.proofs.Members.{Each}
 use Rattle.lists.proofs.Filter.{each-map, kept, kept-none, same-kept}
 use Rattle.board.specs.declared.Board.{Board}
-use Rattle.calls.specs.Table.{word, wordOf, isOf, hasWord, isHeld, isStray, framesWith, framesHeld, mappedTo, strays}
+use Rattle.calls.specs.Table.{word, wordOf, isOf, inSet, hasWord, isFree, isHeld, isStray, framesWith, framesHeld, mappedTo, strays}
 use Rattle.calls.specs.Choices.{choices}
 use Rattle.calls.proofs.Choice.{Chosen, chosen, choice-local}
 use Rattle.isolation.proofs.AcceptedBoard.{Live, at, Inside}
@@ -58,7 +58,7 @@ module _ {b : Board} {t₀ : List ℕ} {x : Live} (inv : Inv b t₀ x) {e : ℕ}
       in-grant (held o) = let same : o .domain ≡ e = omega arith in rw (← same) (o .own)
 
   -- a free frame with a granted colour
-  free-frame : (f : ℕ) → f < b .frames → word (x .table) f ≡ 0 → granted b e f ≡ true → Mine b t₀ e f
+  pub free-frame : (f : ℕ) → f < b .frames → word (x .table) f ≡ 0 → granted b e f ≡ true → Mine b t₀ e f
   free-frame f h q g = record { below = h; own = g; open-to = λ z. omega (arith, inv .reserved f h .1 z) }
 
   pub choices-mine : (c : ℕ) → Inside b e c → Each (Mine b t₀ e) (choices (at b x) e c)
@@ -101,14 +101,25 @@ module _ (b : Board) (x : Live) (e p : ℕ) where
 
 module _ {b : Board} {t₀ : List ℕ} {x y : Live} (inv : Inv b t₀ x) (inv′ : Inv b t₀ y) {d : ℕ} (below : d < b .domains)
     (same : SameWords b d (x .table) (y .table)) where
-  same-found : (test : List ℕ → ℕ → Bool) → OwnTest d test → framesWith (at b x) (test (x .table)) ≡ framesWith (at b y) (test (y .table))
-  unfolding framesWith
-  same-found test own =
-      same-kept (test (x .table)) (test (y .table)) (b .frames)
-      (λ f h.
+  same-test : (test : List ℕ → ℕ → Bool) → OwnTest d test → (f : ℕ) → f < b .frames → test (x .table) f ≡ test (y .table) f
+  same-test test own f h =
       cases (granted b d f)
       (λ g. own .by-word (x .table) (y .table) f (same f h g))
-      (λ g. none-outside inv below test own f h g ∙ sym (none-outside inv′ below test own f h g)))
+      (λ g. none-outside inv below test own f h g ∙ sym (none-outside inv′ below test own f h g))
+
+  same-found : (test : List ℕ → ℕ → Bool) → OwnTest d test → framesWith (at b x) (test (x .table)) ≡ framesWith (at b y) (test (y .table))
+  unfolding framesWith
+  same-found test own = same-kept (test (x .table)) (test (y .table)) (b .frames) (same-test test own)
+
+  -- a frame has the domain's word for a page, or is free with a colour in a set inside the grant
+  pub same-word-test : (p f : ℕ) → p ≤ 4095 → f < b .frames → hasWord (x .table) (wordOf d p) f ≡ hasWord (y .table) (wordOf d p) f
+  same-word-test p f small h = same-test _ (has-word d p small) f h
+
+  pub same-free-test : (c f : ℕ) → Inside b d c → f < b .frames → isFree (x .table) (b .colours) c f ≡ isFree (y .table) (b .colours) c f
+  same-free-test c f inside h =
+      cases (inSet (b .colours) c f)
+      (λ k. rw (same f h (inside (f % b .colours) k)))
+      (λ k. rw (k, and-never (hasWord (x .table) 0 f), and-never (hasWord (y .table) 0 f)))
 
   pub same-mapped : (p : ℕ) → p ≤ 4095 → mappedTo (at b x) d p ≡ mappedTo (at b y) d p
   unfolding mappedTo

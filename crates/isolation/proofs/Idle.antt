@@ -7,7 +7,8 @@ use Rattle.refusal.specs.Reply.{Test, unless}
 use Rattle.board.specs.Tests.{badQuotas}
 use Rattle.calls.specs.Table.{State}
 use Rattle.calls.specs.Calls.{Done, settle, called, look, fault, release, colours, recolour, setQuota}
-use Rattle.isolation.specs.DomainRule.{Call, Look, Fault, Release, Colours, Recolour, SetQuota, outcome, told, SameColours, SameMap, Accepted}
+use Rattle.calls.specs.TakeBack.{takeBack}
+use Rattle.isolation.specs.DomainRule.{Call, Look, Fault, Release, Colours, Recolour, SetQuota, TakeBack, outcome, told, SameColours, SameMap, Accepted}
 use Rattle.isolation.proofs.TestLists.{called-accepted}
 
 -- both states are the start
@@ -20,13 +21,14 @@ module _ (start : State) (ok : Accepted start) (asleep : badQuotas (start .board
   refused d own done = rw (called-accepted start d own done ok, asleep) refl
 
   idle : (c : Call) → outcome start c .next ≡ start
-  unfolding look fault release colours recolour setQuota
+  unfolding look fault release colours recolour setQuota takeBack
   idle (Look d p) = refused d _ _
   idle (Fault d p) = refused d _ _
   idle (Release d p) = refused d _ _
   idle (Colours d) = refused d _ _
   idle (Recolour d c list) = refused d _ _
   idle (SetQuota d q) = refused d _ _
+  idle (TakeBack d c list) = refused d _ _
 
   still-next : (s : State) (c : Call) → s ≡ start → outcome s c .next ≡ start
   still-next s c q = ap (λ (u : State). outcome u c .next) q ∙ idle c

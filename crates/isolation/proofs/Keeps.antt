@@ -1,5 +1,5 @@
 -- Each call keeps the invariant, and whatever every other domain sees.
-use Prim.Native.Nat.{ℕ, _<_, _≤_}
+use Prim.Native.Nat.{ℕ, _%_, _<_, _≤_}
 use mathlib.Core.Bool.{true, false, _&&_, true≢false}
 use mathlib.Core.List.{List, [], _∷_}
 use mathlib.Core.Logic.{inl, inr}
@@ -16,12 +16,15 @@ use Rattle.board.specs.Tests.{grant, emptyOrOutside, noQuota, badQuotas}
 use Rattle.calls.specs.Table.{State, word, wordOf, mappedTo, strays}
 use Rattle.calls.specs.Choices.{choices}
 use Rattle.calls.specs.Calls.{Move, Done, called, written, pageTest, look, faultDone, fault, release, colours, pairUp, move, moveAll, recolour, setQuota}
-use Rattle.isolation.specs.DomainRule.{Call, Look, Fault, Release, Colours, Recolour, SetQuota, names, outcome}
-use Rattle.isolation.proofs.AcceptedBoard.{Live, at, withTable, withSet, setOf, set-inside}
+use Rattle.calls.specs.TakeBack.{moveList, backward, takeBack}
+use Rattle.calls.proofs.Moves as triples
+use Rattle.calls.proofs.TakenBack.{Fits, list-fits}
+use Rattle.isolation.specs.DomainRule.{Call, Look, Fault, Release, Colours, Recolour, SetQuota, TakeBack, names, outcome}
+use Rattle.isolation.proofs.AcceptedBoard.{Live, at, withTable, withSet, setOf, Inside, set-inside}
 use Rattle.isolation.proofs.TestLists.{called-one, small-page}
 use Rattle.isolation.proofs.Invariant.{granted, Inv, Good, good, Mine, Fresh, known, put, MovesMine, moves-keep, recoloured, allowed}
 use Rattle.isolation.proofs.Agree.{Agree, agree-self}
-use Rattle.isolation.proofs.Found.{mapped-mine, choices-mine, strays-mine, unmapped}
+use Rattle.isolation.proofs.Found.{own-frame, free-frame, mapped-mine, choices-mine, strays-mine, unmapped}
 
 -- n is s after a call of domain e: it has the invariant, and every other domain sees the same
 pub record Kept (b : Board) (t₀ : List ℕ) (e : ℕ) (s n : State) : Type 0 where
@@ -132,6 +135,25 @@ module _ {b : Board} {t₀ : List ℕ} {x : Live} (inv : Inv b t₀ x) (e : ℕ)
       recolour-done below c (pairUp e (x .table) vs gs)
       (pairs-mine b t₀ e (x .table) vs gs (strays-mine inv below c) (choices-mine inv below c (set-inside b e c nine))) nine)
 
+  -- triples that fit, the other way: the new frame has a word of e, and the old one is free with a granted colour
+  pub back-mine : e < b .domains → (c : ℕ) → Inside b e c → (ms : List Move) → triples.Each (Fits (at b x) e c) ms → MovesMine b t₀ e (backward ms)
+  unfolding backward
+  back-mine below c inside [] fits = tt
+  back-mine below c inside (m ∷ ms) fits =
+      let k = fits .0 in (
+        own-frame inv below (m .target) (k .new-below) (record { page = m .page; small = k .page; is = k .held }),
+        free-frame inv below (m .source) (k .old-below) (k .free) (inside (m .source % b .colours) (k .inside)),
+        back-mine below c inside ms (fits .1),
+      )
+
+  pub take-back-keeps : (c : ℕ) (list : List ℕ) → Kept b t₀ e (at b x) (takeBack (at b x) e c list .next)
+  unfolding takeBack
+  take-back-keeps c list =
+      under _ _ (λ below ok.
+      let nine = passed-first _ _ ok in
+      let fits = list-fits (at b x) e c list (passed-first _ _ (nine .1) .0) .each in
+      recolour-done below c (backward (moveList list)) (back-mine below c (set-inside b e c (nine .0)) (moveList list) fits) (nine .0))
+
   pub quota-keeps : (q : ℕ) → Kept b t₀ e (at b x) (setQuota (at b x) e q .next)
   unfolding setQuota
   quota-keeps q =
@@ -149,3 +171,4 @@ call-keeps (good inv) (Release d p) = release-keeps inv d p
 call-keeps (good inv) (Colours d) = colours-keeps inv d
 call-keeps (good inv) (Recolour d c lent) = recolour-keeps inv d c lent
 call-keeps (good inv) (SetQuota d q) = quota-keeps inv d q
+call-keeps (good inv) (TakeBack d c list) = take-back-keeps inv d c list

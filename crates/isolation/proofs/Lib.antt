@@ -1,4 +1,4 @@
--- The arguments for the domain rule, for even use of colours and for quotas.
+-- The arguments for the domain rule, for even use of colours, for quotas and for taking a recolouring back.
 pub mod Unwinding
 pub mod AcceptedBoard
 pub mod TestLists
@@ -15,3 +15,5 @@ pub mod Theorems
 pub mod EvenUse
 pub mod Quotas
 pub mod Room
+pub mod InActive
+pub mod TakingBack

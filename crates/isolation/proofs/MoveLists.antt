@@ -1,4 +1,5 @@
 -- What a recolouring tells a domain of its move list: the triples, then the words past them as they were; and the whole list as it was where it is refused.
+-- A taking back only reads it.
 use Prim.Native.Nat.{ℕ, _*_}
 use mathlib.Core.List.{List}
 use mathlib.Core.Path.{_≡_}
@@ -7,7 +8,8 @@ use Rattle.refusal.specs.Reply.{Refuses}
 use Rattle.calls.specs.Table.{State}
 use Rattle.calls.specs.Calls.{Move, recolour, triples}
 use Rattle.calls.proofs.MoveList.{first-words, other-words, refused-list}
-use Rattle.isolation.specs.DomainRule.{Recolour, told}
+use Rattle.calls.proofs.TakenBack.{none-written}
+use Rattle.isolation.specs.DomainRule.{Recolour, TakeBack, told}
 
 module _ (s : State) (d c : ℕ) (lent : List ℕ) where
   abbrev moves : List Move
@@ -21,3 +23,7 @@ module _ (s : State) (d c : ℕ) (lent : List ℕ) where
 
   pub refused-stays : (n r : ℕ) → recolour s d c lent .reply ≡ Refuses n r → told s (Recolour d c lent) .list ≡ lent
   refused-stays = refused-list s d c lent
+
+  pub list-stays : told s (TakeBack d c lent) .list ≡ lent
+  unfolding triples
+  list-stays = rw (none-written s d c lent)

@@ -22,9 +22,11 @@ use Rattle.board.specs.Tests.{quota, noQuota, callTests, callReply}
 use Rattle.board.proofs.Passed.{Accepted as Fine, accepted, quotas-split, quota-placed}
 use Rattle.calls.specs.Table.{State, word, wordOf, isOf, isHeld, framesWith, framesHeld, mappedTo}
 use Rattle.calls.specs.Choices.{choices}
+use Rattle.calls.proofs.Words.{free-word}
 use Rattle.calls.specs.Calls.{Move, Done, called, written, faultDone, atQuota, quotaTest, withQuota, pairs, move, moveAll}
 use Rattle.calls.specs.Calls.{look, fault, release, colours, recolour, setQuota}
-use Rattle.isolation.specs.DomainRule.{Call, Look, Fault, Release, Colours, Recolour, SetQuota, outcome, run, own, Accepted, Empty}
+use Rattle.calls.specs.TakeBack.{moveList, backward, takeBack}
+use Rattle.isolation.specs.DomainRule.{Call, Look, Fault, Release, Colours, Recolour, SetQuota, TakeBack, outcome, run, own, Accepted, Empty}
 use Rattle.isolation.specs.Quotas.{WithinQuota, NeverAboveQuota, OthersQuotaUnseen}
 use Rattle.isolation.proofs.AcceptedBoard.{live, facts}
 use Rattle.isolation.proofs.TestLists.{unless-one, small-page}
@@ -55,10 +57,6 @@ module _ (d m : ℕ) where
           (λ o. sym (elsewhere t f w g (eqb-false g f o)) ∙ e))
           (λ l. rw (set-out t f w l) at e)
 
-  -- the free word is no domain's
-  not-free : isOf d 0 ≡ false
-  not-free = rw (lt-leb (wordOf d 0) 0 (omega arith)) refl
-
   -- a move carries a word on
   move-held : (t : List ℕ) (s : Move) → length t ≡ m → held (move t s) ≤ held t
   move-held t s long =
@@ -66,14 +64,14 @@ module _ (d m : ℕ) where
       cases (isHeld t d v)
       (λ e.
       let here : v < m = in-table v e in
-      let cleared = one-more (isHeld (set t v 0) d) (isHeld t d) v (elsewhere t v 0) (ap (isOf d) (getD-set-same t v 0 0 (omega arith)) ∙ not-free) e m 0 zero-le (omega arith) in
+      let cleared = one-more (isHeld (set t v 0) d) (isHeld t d) v (elsewhere t v 0) (ap (isOf d) (getD-set-same t v 0 0 (omega arith)) ∙ free-word d) e m 0 zero-le (omega arith) in
       omega (arith, cleared, one-more-held (set t v 0) (s .target) (word t v)))
-      (λ e. le-trans (none-more-held (set t v 0) (s .target) (word t v) e) (none-more-held t v 0 not-free))
+      (λ e. le-trans (none-more-held (set t v 0) (s .target) (word t v) e) (none-more-held t v 0 (free-word d)))
     where
       in-table : (f : ℕ) → isHeld t d f ≡ true → f < m
       in-table f e =
           below-or-not f (length t) (λ l. omega arith)
-          (λ l. absurd (true≢false (sym e ∙ ap (isOf d) (List·getD-eq-default t 0 l) ∙ not-free)))
+          (λ l. absurd (true≢false (sym e ∙ ap (isOf d) (List·getD-eq-default t 0 l) ∙ free-word d)))
 
   moves-held : (ms : List Move) (t : List ℕ) → length t ≡ m → held (moveAll t ms) ≤ held t
   unfolding moveAll
@@ -106,7 +104,7 @@ module _ (d : ℕ) (s : State) (within : WithinQuota d s) where
 
   freed : (f : ℕ) → WithinQuota d (written s f 0)
   unfolding framesHeld framesWith
-  freed f = le-trans (none-more-held d frames (s .table) f 0 (not-free d frames)) within
+  freed f = le-trans (none-more-held d frames (s .table) f 0 (free-word d)) within
 
   took : (e p f : ℕ) → p ≤ 4095 → atQuota s e ≡ false → WithinQuota d (written s f (wordOf e p))
   unfolding framesHeld framesWith
@@ -136,7 +134,7 @@ module _ (d : ℕ) (s : State) (within : WithinQuota d s) where
       (λ o. rw (getD-set-other qs e d q 0 (λ z. eqb-false e d o (sym z))) within)
 
   call-within : (c : Call) → WithinQuota d (outcome s c .next)
-  unfolding look fault release colours recolour setQuota framesHeld framesWith
+  unfolding look fault release colours recolour setQuota takeBack framesHeld framesWith
   call-within (Look e p) = under e _ _ (λ fine ok. within)
   call-within (Fault e p) =
       under e _ _ (λ fine ok.
@@ -146,6 +144,7 @@ module _ (d : ℕ) (s : State) (within : WithinQuota d s) where
   call-within (Colours e) = under e _ _ (λ fine ok. within)
   call-within (Recolour e c lent) = under e _ _ (λ fine ok. moved (pairs s e c) (fine .bounds .long))
   call-within (SetQuota e q) = under e _ _ (λ fine ok. allowed e q fine (passed-first _ _ ok .0))
+  call-within (TakeBack e c list) = under e _ _ (λ fine ok. moved (backward (moveList list)) (fine .bounds .long))
 
 -- and so each history
 history-within : (d : ℕ) (s : State) → WithinQuota d s → (h : List Call) → WithinQuota d (run s h)
@@ -159,7 +158,7 @@ unfolding framesHeld framesWith
 start-within s ok empty d below =
     let few = facts (s .board) (live s) ok .few in
     let none : (f : ℕ) → f < s .board .frames → isHeld (s .table) d f ≡ false = λ f l.
-    ⊎-elim (λ z. ap (isOf d) z ∙ not-free d 0) (λ z. ap (isOf d) z ∙ reserved-word d (omega arith)) (empty-word s empty f l) in
+    ⊎-elim (λ z. ap (isOf d) z ∙ free-word d) (λ z. ap (isOf d) z ∙ reserved-word d (omega arith)) (empty-word s empty f l) in
     rw (none-kept (isHeld (s .table) d) (s .board .frames) none) zero-le
   where
     reserved-word : (d : ℕ) → d < 8 → isOf d 65535 ≡ false

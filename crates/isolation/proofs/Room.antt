@@ -6,16 +6,17 @@ use mathlib.Core.Bool.{Bool, true, false, not, _&&_, true≢false}
 use mathlib.Core.List.{List}
 use mathlib.Core.Path.{_≡_, refl, sym, _∙_}
 use lib.ListN.{length, List·getD-eq-default}
-use borrow.Author.Tests.{eq-eqb, eqb-false, not-true, lt-ltb, le-ltb, le-leb}
+use borrow.Author.Tests.{eq-eqb, eqb-false, not-true, lt-ltb, le-ltb}
 use Rattle.lists.specs.Range.{from, upto, keep}
 use Rattle.lists.proofs.Split.{cases, below-or-not, and-both}
 use Rattle.lists.proofs.Same.{no-fewer}
 use Rattle.refusal.specs.Reply.{Answers, unless}
 use Rattle.board.specs.declared.Board.{Board}
 use Rattle.board.specs.Tests.{grant, quota, emptyOrOutside, badQuotas}
-use Rattle.calls.specs.Table.{State, stateOf, word, wordOf, inSet, hasWord, isOf, isFree, isHeld, framesWith, frees, framesHeld, strays}
+use Rattle.calls.specs.Table.{State, stateOf, word, inSet, hasWord, isOf, isFree, isHeld, framesWith, frees, framesHeld, strays}
 use Rattle.calls.specs.Choices.{choices}
 use Rattle.calls.specs.Calls.{Moved, settle, recolourTests, recolour}
+use Rattle.calls.proofs.Words.{page-word}
 use Rattle.calls.proofs.Choice.{taken-count}
 use Rattle.isolation.specs.DomainRule.{run}
 use Rattle.isolation.specs.Quotas.{WithinQuota, openIn, RoomToRecolour}
@@ -37,8 +38,8 @@ parts p q (suc k) i =
     (λ e. rw e rest)
 
 -- a page's word is its domain's
-page-word : {d w : ℕ} → PageWord d w → isOf d w ≡ true
-page-word {d} {w} k = rw (le-leb (wordOf d 0) w (omega arith), le-leb w (wordOf d 4095) (omega arith))
+its-word : {d w : ℕ} → PageWord d w → isOf d w ≡ true
+its-word {d} k = rw (k .is) (page-word d (k .page) (k .small))
 
 module _ {b : Board} {t₀ : List ℕ} {x : Live} (inv : Inv b t₀ x) {d : ℕ} (below : d < b .domains)
     (c : ℕ) (fine : emptyOrOutside (grant b d) c ≡ false) where
@@ -52,7 +53,7 @@ module _ {b : Board} {t₀ : List ℕ} {x : Live} (inv : Inv b t₀ x) {d : ℕ}
   no-others : (f w : ℕ) → granted b d f ≡ true → (w ≡ 65535 → ⊥) → isOf d w ≡ false → Lawful b f w → w ≡ 0
   no-others f w own open-to not-its (free z) = z
   no-others f w own open-to not-its (reserved r) = absurd (open-to r)
-  no-others f w own open-to not-its (held k) = absurd (true≢false (sym (page-word (held-own inv below own k)) ∙ not-its))
+  no-others f w own open-to not-its (held k) = absurd (true≢false (sym (its-word (held-own inv below own k)) ∙ not-its))
 
   -- of the frames that are not reserved, one that the domain does not hold is free,
   open-free : (f : ℕ) → (isOpen f && not (isHeld (x .table) d f)) ≡ true → isFree (x .table) (b .colours) c f ≡ true

@@ -13,8 +13,8 @@ use Rattle.board.specs.declared.Board.{Board}
 use Rattle.board.specs.Tests.{badQuotas}
 use Rattle.calls.specs.Table.{State, word}
 use Rattle.isolation.specs.DomainRule.{Call, Look, Colours, names, outcome, run, own, Told, told, answers}
-use Rattle.isolation.specs.DomainRule.{SameColours, SameMap, Accepted, Empty, DomainRule}
-use Rattle.isolation.proofs.Unwinding.{runs, owns, heard, rule}
+use Rattle.isolation.specs.DomainRule.{LookTheSame, SameColours, SameMap, Accepted, Empty, DomainRule}
+use Rattle.isolation.proofs.Unwinding.{runs, owns, heard, meet, alike, rule}
 use Rattle.isolation.proofs.AcceptedBoard.{live, facts}
 use Rattle.isolation.proofs.Invariant.{free, reserved, Good, good}
 use Rattle.isolation.proofs.Agree.{Agree, agree-self, agree-back, agree-on}
@@ -23,10 +23,10 @@ use Rattle.isolation.proofs.Sees.{call-meets}
 use Rattle.isolation.proofs.Reveals.{reveals}
 use Rattle.isolation.proofs.Idle.{Still, still-own, still-other, still-left, still-shown}
 
-abbrev step : State → Call → State
+abbrev pub step : State → Call → State
 step s c = outcome s c .next
 
-abbrev names-it : ℕ → Call → Bool
+abbrev pub names-it : ℕ → Call → Bool
 names-it d c = eqb (names c) d
 
 -- a word of an empty table, whichever of its two is named first
@@ -51,11 +51,27 @@ unfolding run
 history-good s g [] = g
 history-good s g (c ∷ cs) = history-good (step s c) (call-keeps g c .good-next) cs
 
+-- the statement's own definitions are those of the unwinding
+run-is : (s : State) (h : List Call) → runs step s h ≡ run s h
+unfolding run runs
+run-is s [] = refl
+run-is s (c ∷ cs) = run-is (step s c) cs
+
+own-is : (d : ℕ) (h : List Call) → owns (names-it d) h ≡ own d h
+unfolding own owns
+own-is d [] = refl
+own-is d (c ∷ cs) = rw (own-is d cs)
+
+heard-is : (d : ℕ) (s : State) (h : List Call) → heard step told (names-it d) s h ≡ answers d s h
+unfolding answers heard
+heard-is d s [] = refl
+heard-is d s (c ∷ cs) = rw (heard-is d (step s c) cs)
+
 -- two states of histories from the start, with the same to see for domain d
-record Related (b : Board) (t₀ : List ℕ) (d : ℕ) (s r : State) : Type 0 where
-  left-good : Good b t₀ s
-  right-good : Good b t₀ r
-  agree : Agree b d s r
+pub record Related (b : Board) (t₀ : List ℕ) (d : ℕ) (s r : State) : Type 0 where
+  pub left-good : Good b t₀ s
+  pub right-good : Good b t₀ r
+  pub agree : Agree b d s r
 
 left : {b : Board} {t₀ : List ℕ} {d : ℕ} (s r : State) → Related b t₀ d s r → Related b t₀ d s s
 left s r k = record { left-good = k .left-good; right-good = k .left-good; agree = agree-self s }
@@ -64,7 +80,7 @@ abbrev Shows : ℕ → State → State → Type 0
 Shows d s r = SameColours d s r × SameMap d s r
 
 module _ {b : Board} {t₀ : List ℕ} {d : ℕ} (below : d < b .domains) where
-  own-step : (s r : State) (c : Call) → Related b t₀ d s r → names-it d c ≡ true
+  pub own-step : (s r : State) (c : Call) → Related b t₀ d s r → names-it d c ≡ true
       → (told s c ≡ told r c) × Related b t₀ d (step s c) (step r c)
   own-step s r c k e =
       let m = call-meets (k .left-good) (k .right-good) (k .agree) c (eqb-true (names c) d e) in (
@@ -85,6 +101,18 @@ module _ {b : Board} {t₀ : List ℕ} {d : ℕ} (below : d < b .domains) where
         agree = agree-on (kept .others d below (eqb-false (names c) d e)) (k .agree);
       }
 
+  -- a list run from one of them, and its own calls run from the other, lead to two such states again
+  pub meets-again : (l : List Call) (s r : State) → Related b t₀ d s r → Related b t₀ d (run s l) (run r (own d l))
+  meets-again l s r k = simp (run-is, own-is) at (meet step told (names-it d) (Related b t₀ d) own-step other-step l s r k)
+
+  -- and they look the same to the domain
+  pub looks-same : (s r : State) → Related b t₀ d s r → LookTheSame d s r
+  looks-same s r k l m e =
+      let on-right : Related b t₀ d r r = record { left-good = k .right-good; right-good = k .right-good; agree = agree-self r } in
+      let first = alike step told (names-it d) (Related b t₀ d) own-step other-step l s r k in
+      let last = alike step told (names-it d) (Related b t₀ d) own-step other-step m r r on-right in
+      (simp (heard-is, own-is) at first) ∙ rw e (sym (simp (heard-is, own-is) at last))
+
   reveal : badQuotas b ≡ false → (s r s′ r′ : State) → Related b t₀ d s s′ → Related b t₀ d r r′ → Shows d s′ r′ → Related b t₀ d s r
   reveal awake s r s′ r′ k l w =
       let m = reveals awake below (k .right-good) (l .right-good) (w .0) (w .1) in
@@ -100,22 +128,6 @@ module _ {b : Board} {t₀ : List ℕ} {d : ℕ} (below : d < b .domains) where
       let at-reply : (c : Call) → names-it d c ≡ true → outcome s′ c .reply ≡ outcome r′ c .reply = λ c e.
       ap (λ (a : Told). a .reply) (sym (own-step s s′ c k e .0) ∙ same c e ∙ own-step r r′ c l e .0) in
       (at-reply (Colours d) (eq-eqb d d refl), λ p small. at-reply (Look d p) (eq-eqb d d refl))
-
--- the statement's own definitions are those of the unwinding
-run-is : (s : State) (h : List Call) → runs step s h ≡ run s h
-unfolding run runs
-run-is s [] = refl
-run-is s (c ∷ cs) = run-is (step s c) cs
-
-own-is : (d : ℕ) (h : List Call) → owns (names-it d) h ≡ own d h
-unfolding own owns
-own-is d [] = refl
-own-is d (c ∷ cs) = rw (own-is d cs)
-
-heard-is : (d : ℕ) (s : State) (h : List Call) → heard step told (names-it d) s h ≡ answers d s h
-unfolding answers heard
-heard-is d s [] = refl
-heard-is d s (c ∷ cs) = rw (heard-is d (step s c) cs)
 
 -- the rule of the unwinding: on a board with a quota that is none, where nothing ever changes, and on any other
 abbrev Alike : ℕ → State → State → Type 0

@@ -1,11 +1,14 @@
 -- A domain's own calls go by what it sees. Two states that agree there give the same reply and the same moves, and agree again afterwards.
 use Prim.Native.Nat.{ℕ, _<_}
-use mathlib.Core.Bool.{true, false, _&&_, true≢false}
+use mathlib.Core.Bool.{true, false, _&&_, _||_, true≢false}
 use mathlib.Core.List.{List, [], _∷_, _++_}
 use mathlib.Core.Path.{_≡_, refl, sym, ap, ap₂, _∙_}
+use lib.Dec.{ltb, leb}
 use lib.ListN.{length, set, length-set}
 use lib.Seq.{getD-set-same, getD-set-other}
+use borrow.Author.Tests.{ltb-false, leb-false}
 use Rattle.lists.specs.Range.{headOr, isEmpty}
+use Rattle.lists.proofs.Split.{cases}
 use Rattle.lists.proofs.Members.{Each}
 use Rattle.refusal.specs.Reply.{Reply, Answers, Test, test, unless, passes}
 use Rattle.refusal.proofs.Replies.{passed-first}
@@ -16,13 +19,15 @@ use Rattle.calls.specs.Table.{State, word, wordOf, mappedTo, strays}
 use Rattle.calls.specs.Choices.{choices}
 use Rattle.calls.specs.Calls.{Freed, Active, Move, Done, settle, called, written, pageTest, lookAnswer, faultDone, pairUp, move, moveAll}
 use Rattle.calls.specs.Calls.{look, fault, release, colours, recolour, setQuota}
-use Rattle.isolation.specs.DomainRule.{Call, Look, Fault, Release, Colours, Recolour, SetQuota, names, outcome}
-use Rattle.isolation.proofs.AcceptedBoard.{Live, at, withTable, withSet, withLimit, setOf, set-inside}
-use Rattle.isolation.proofs.TestLists.{Meet, answered, unless-two, called-two, small-page}
-use Rattle.isolation.proofs.Invariant.{after-write, Inv, Good, good, Mine, known, MovesMine}
+use Rattle.calls.specs.TakeBack.{moveList, anyMove, wrongMove, wrongList, backward, restored, takeBack}
+use Rattle.calls.proofs.TakenBack.{list-fits}
+use Rattle.isolation.specs.DomainRule.{Call, Look, Fault, Release, Colours, Recolour, SetQuota, TakeBack, names, outcome}
+use Rattle.isolation.proofs.AcceptedBoard.{Live, at, withTable, withSet, withLimit, setOf, Inside, set-inside}
+use Rattle.isolation.proofs.TestLists.{Meet, answered, unless-both, unless-two, called-two, small-page}
+use Rattle.isolation.proofs.Invariant.{after-write, Inv, Good, good, Mine, known, MovesMine, moves-keep, recoloured}
 use Rattle.isolation.proofs.Agree.{SameWords, Agree}
-use Rattle.isolation.proofs.Found.{mapped-mine, choices-mine, strays-mine, same-mapped, same-held, same-choices, same-strays}
-use Rattle.isolation.proofs.Keeps.{pairs-mine}
+use Rattle.isolation.proofs.Found.{mapped-mine, choices-mine, strays-mine, same-mapped, same-held, same-choices, same-strays, same-word-test, same-free-test}
+use Rattle.isolation.proofs.Keeps.{pairs-mine, back-mine}
 
 module _ (b : Board) (t₀ : List ℕ) (d : ℕ) where
   -- the same write on both sides
@@ -147,6 +152,41 @@ module _ {b : Board} {t₀ : List ℕ} {d : ℕ} {x y : Live} (inv : Inv b t₀ 
       answered (Agree b d) sees refl refl
       (recolour-done below c (pairUp d (x .table) vs gs) (pairs-mine b t₀ d (x .table) vs gs stray (choices-mine inv below c inside))))))
 
+  -- 31 has the same against a triple, and against a list, for a set inside the grant
+  same-wrong : d < b .domains → (c : ℕ) → Inside b d c → (m : Move) → wrongMove (at b x) d c m ≡ wrongMove (at b y) d c m
+  same-wrong below c inside m =
+      cases (ltb 4095 (m .page)) (λ e. rw e) (λ small.
+      cases (leb (b .frames) (m .source)) (λ e. rw (small, e)) (λ old-in.
+      cases (leb (b .frames) (m .target)) (λ e. rw (small, old-in, e)) (λ new-in.
+      rw (
+        same-word-test inv inv′ below (sees .words) (m .page) (m .target) (ltb-false _ _ small) (leb-false _ _ new-in),
+        same-free-test inv inv′ below (sees .words) c (m .source) inside (leb-false _ _ old-in),
+      ))))
+
+  same-wrongs : d < b .domains → (c : ℕ) → Inside b d c → (ms : List Move) → anyMove (wrongMove (at b x) d c) ms ≡ anyMove (wrongMove (at b y) d c) ms
+  unfolding anyMove
+  same-wrongs below c inside [] = refl
+  same-wrongs below c inside (m ∷ ms) = ap₂ _||_ (same-wrong below c inside m) (same-wrongs below c inside ms)
+
+  -- where it passes, the domain sees the same after the moves, so that 32 is the same too
+  pub take-back-meets : (c : ℕ) (list : List ℕ) → Meet (Agree b d) (takeBack (at b x) d c list) (takeBack (at b y) d c list)
+  unfolding takeBack
+  take-back-meets c list =
+      let ms = backward (moveList list) in
+      under (test 9 (emptyOrOutside (grant b d) c) ∷ []) _ _ _ _ (λ below ok.
+      let nine = passed-first _ _ ok .0 in
+      let inside = set-inside b d c nine in
+      rw (← (same-wrongs below c inside (moveList list)))
+      (unless-both (Agree b d) sees (test 31 (wrongList (at b x) d c list) ∷ []) _ _ _ _ (λ right.
+      let mine = back-mine inv d below c inside (moveList list) (list-fits (at b x) d c list (passed-first _ _ right .0) .each) in
+      let after = recolour-done below c ms mine in
+      let on-left = recoloured (moves-keep below x ms mine inv) d c below nine in
+      let on-right = recoloured (moves-keep below y ms mine inv′) d c below nine in
+      let outside : strays (restored (at b x) d c list) d c ≡ strays (restored (at b y) d c list) d c =
+      same-strays on-left on-right below (after .words) c in
+      rw (← outside)
+      (unless-two (Agree b d) sees _ _ _ (λ some. answered (Agree b d) sees refl refl after)))))
+
   quota-done : badQuotas (at b y .board) ≡ false → d < b .domains → (q : ℕ) → Agree b d (at b (withLimit x d q)) (at b (withLimit y d q))
   quota-done awake below q =
       let both : badQuotas (at b x .board) ≡ false = inv .quotas ∙ sym (inv′ .quotas) ∙ awake in
@@ -173,3 +213,4 @@ call-meets (good inv) (good inv′) sees (Release e p) q = rw q (release-meets i
 call-meets (good inv) (good inv′) sees (Colours e) q = rw q (colours-meets inv inv′ sees)
 call-meets (good inv) (good inv′) sees (Recolour e c lent) q = rw q (recolour-meets inv inv′ sees c lent)
 call-meets (good inv) (good inv′) sees (SetQuota e n) q = rw q (quota-meets inv inv′ sees n)
+call-meets (good inv) (good inv′) sees (TakeBack e c list) q = rw q (take-back-meets inv inv′ sees c list)

@@ -62,7 +62,7 @@ module _ (R : State → State → Type 0) {s r : State} (k : R s r) where
   answered answer moves next = record { reply = ap Answers answer; moves = moves; next = next }
 
   -- the first tests are the same on both sides, and where they pass it goes on
-  unless-both : (ts us us′ : List Test) (o q : Done)
+  pub unless-both : (ts us us′ : List Test) (o q : Done)
       → (passes ts ≡ true → Meet R (settle s (unless us o)) (settle r (unless us′ q)))
       → Meet R (settle s (unless (ts ++ us) o)) (settle r (unless (ts ++ us′) q))
   unfolding unless passes settle

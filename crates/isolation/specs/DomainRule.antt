@@ -12,9 +12,10 @@ use Rattle.refusal.specs.Reply.{Reply, passes}
 use Rattle.board.specs.Tests.{boardTests}
 use Rattle.calls.specs.Table.{State, word}
 use Rattle.calls.specs.Calls.{Answer, Outcome, look, fault, release, colours, recolour, setQuota, listed}
+use Rattle.calls.specs.TakeBack.{takeBack}
 
--- A call: the domain that it names, any number, and a page for look, fault and release, a set and a move list of its own for recolour, a quota for
--- set quota.
+-- A call: the domain that it names, any number, and a page for look, fault and release, a set and a move list of its own for recolour and take back, a
+-- quota for set quota.
 pub data Call : Type 0 where
   Look : ℕ → ℕ → Call
   Fault : ℕ → ℕ → Call
@@ -22,6 +23,7 @@ pub data Call : Type 0 where
   Colours : ℕ → Call
   Recolour : ℕ → ℕ → List ℕ → Call
   SetQuota : ℕ → ℕ → Call
+  TakeBack : ℕ → ℕ → List ℕ → Call
 
 abbrev pub names : Call → ℕ
 names (Look d p) = d
@@ -30,6 +32,7 @@ names (Release d p) = d
 names (Colours d) = d
 names (Recolour d c list) = d
 names (SetQuota d q) = d
+names (TakeBack d c list) = d
 
 abbrev pub outcome : State → Call → Outcome
 outcome s (Look d p) = look s d p
@@ -38,6 +41,7 @@ outcome s (Release d p) = release s d p
 outcome s (Colours d) = colours s d
 outcome s (Recolour d c list) = recolour s d c list
 outcome s (SetQuota d q) = setQuota s d q
+outcome s (TakeBack d c list) = takeBack s d c list
 
 -- A history is a list of calls. Each gets the board and table that the one before left; refused calls count.
 unfoldable pub run : State → List Call → State
@@ -49,7 +53,7 @@ unfoldable pub own : ℕ → List Call → List Call
 own d [] = []
 own d (c ∷ cs) = let rest = own d cs in if eqb (names c) d then c ∷ rest else rest
 
--- The move list lent to a call, which only recolour has.
+-- The move list lent to a call, which only recolour and take back have: the one writes it, the other reads it.
 abbrev pub lent : Call → List ℕ
 lent (Look d p) = []
 lent (Fault d p) = []
@@ -57,6 +61,7 @@ lent (Release d p) = []
 lent (Colours d) = []
 lent (Recolour d c list) = list
 lent (SetQuota d q) = []
+lent (TakeBack d c list) = list
 
 -- What a domain is told by an own call: the answer, or the refusal's number and row, and the move list as it stands afterwards, word by word
 -- (document 02, No. 4). The board handed back is no part of it.

@@ -1,6 +1,6 @@
--- Even use of colours, for a planner: document 02, No. 7. In a history in which a domain has neither released nor recoloured, whatever others
--- did, it holds at most one frame more in one active colour than in another that still has a free frame. This is why twelve frames of six
--- colours stand two by two.
+-- Even use of colours, for a planner: document 02, No. 7. In a history in which a domain has not released, recoloured or taken a recolouring back,
+-- whatever others did, it holds at most one frame more in one active colour than in another that still has a free frame. This is why twelve
+-- frames of six colours stand two by two.
 use Prim.Native.Nat.{ℕ, _+_, _<_, _≤_}
 use mathlib.Core.Bool.{Bool, true, false}
 use mathlib.Core.List.{List, [], _∷_}
@@ -13,7 +13,7 @@ use Rattle.calls.specs.Choices.{inColour}
 use Rattle.calls.specs.Calls.{Answer, Mapped, Unmapped, Old, New, Freed, Active, Moved, Quota}
 use Rattle.isolation.specs.DomainRule.{Call, names, outcome, run, Accepted, Empty}
 
--- The reply of a release or a recolouring that was done. A refused one does nothing, so it may stand in the history.
+-- The reply of a release, a recolouring or a taking back that was done. A refused one does nothing, so it may stand in the history.
 abbrev pub freedOrMoved : Reply Answer → Bool
 freedOrMoved (Answers (Mapped f)) = false
 freedOrMoved (Answers Unmapped) = false
@@ -25,7 +25,7 @@ freedOrMoved (Answers (Moved k)) = true
 freedOrMoved (Answers (Quota q)) = false
 freedOrMoved (Refuses n r) = false
 
--- Domain d has neither released nor recoloured in a history from s.
+-- Domain d has not released, recoloured or taken a recolouring back in a history from s.
 abbrev pub KeptAll : ℕ → State → List Call → Type 0
 KeptAll d s [] = Unit {0}
 KeptAll d s (c ∷ cs) = (names c ≡ d → freedOrMoved (outcome s c .reply) ≡ false) × KeptAll d (outcome s c .next) cs

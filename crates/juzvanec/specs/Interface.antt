@@ -2,4 +2,4 @@
 use Prim.Native.Nat.{ℕ}
 
 abbrev pub interfaceNumber : ℕ
-interfaceNumber = 6
+interfaceNumber = 7

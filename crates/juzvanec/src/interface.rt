@@ -7,5 +7,5 @@ ghost use Rattle.juzvanec.specs.Interface.{interfaceNumber};
 pub extern "C" fn juzvanec_interface() -> u32
     ensures { λ r. ⌜ r ≡ interfaceNumber ⌝ }
 {
-    6
+    7
 }

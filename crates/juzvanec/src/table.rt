@@ -1,7 +1,8 @@
-// The six calls on the frame table for callers in C: document 01, "Board and frame table", and 02, No. 6. The board
-// is lent as its 27 words, and recolour and set_quota alone change it; set_quota is lent the record itself.
+// The seven calls on the frame table for callers in C: document 01, "Board and frame table", and 02, Nos. 6 and 10. The
+// board is lent as its 27 words, and recolour, take_back and set_quota alone change it; set_quota is lent the record itself.
 ghost use mathlib.Core.Path.{_≡_};
 ghost use Rattle.calls.specs.Calls.{look as lookCall, fault as faultCall, release as releaseCall, colours as coloursCall, recolour as recolourCall, setQuota, listed};
+ghost use Rattle.calls.specs.TakeBack.{takeBack};
 ghost use Rattle.calls.specs.Table.{stateOf};
 ghost use Rattle.marshal.specs.BoardWords.{wordsLeft, lent};
 ghost use Rattle.marshal.specs.Replies.{numberOf, rowOf, valueOf, numberIn, secondIn};
@@ -125,6 +126,33 @@ pub extern "C" fn juzvanec_recolour(
     ensures { λ _. ⌜ now (moves .exit) ≡ listed ((recolourCall (lent (now (board .entry)) (now (table .entry))) domain set (now (moves .entry))) .moves) (now (moves .entry)) ⌝ }
 {
     let done = frames::recolour(board_of(board), table, domain, set, moves);
+    let answer = done.answer;
+    let told = moved(answer);
+    write_recoloured(board, answer, domain, set);
+    *count = told.value;
+    *row = told.row;
+    told.number
+}
+
+// The count of moves; the list is only read. The board's words are written only where the call answers: then the
+// domain's active set is the former one.
+#[no_mangle]
+pub extern "C" fn juzvanec_take_back(
+    board: &mut [u32; 27],
+    table: &mut [u16],
+    domain: u32,
+    set: u32,
+    moves: &[u16],
+    count: &mut u32,
+    row: &mut u32,
+) -> u32
+    ensures { λ r. ⌜ r ≡ numberOf ((takeBack (lent (now (board .entry)) (now (table .entry))) domain set (now (moves .entry))) .reply) ⌝ }
+    ensures { λ _. ⌜ now (count .exit) ≡ valueOf numberIn ((takeBack (lent (now (board .entry)) (now (table .entry))) domain set (now (moves .entry))) .reply) ⌝ }
+    ensures { λ _. ⌜ now (row .exit) ≡ rowOf ((takeBack (lent (now (board .entry)) (now (table .entry))) domain set (now (moves .entry))) .reply) ⌝ }
+    ensures { λ _. ⌜ now (board .exit) ≡ wordsLeft (takeBack (lent (now (board .entry)) (now (table .entry))) domain set (now (moves .entry))) (now (board .entry)) ⌝ }
+    ensures { λ _. ⌜ now (table .exit) ≡ (takeBack (lent (now (board .entry)) (now (table .entry))) domain set (now (moves .entry))) .next .table ⌝ }
+{
+    let done = frames::take_back(board_of(board), table, domain, set, moves);
     let answer = done.answer;
     let told = moved(answer);
     write_recoloured(board, answer, domain, set);

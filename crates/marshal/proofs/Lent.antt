@@ -10,8 +10,9 @@ use lib.Seq.{drop-cons, drop-drop, take-all, take-at, drop-at, set-append-left, 
 use Rattle.lists.proofs.Split.{cases}
 use Rattle.refusal.specs.Reply.{Test, unless}
 use Rattle.board.specs.declared.Board.{Board}
-use Rattle.calls.specs.Table.{State}
-use Rattle.calls.specs.Calls.{Done, withActive, withQuota, recolour, called, settle}
+use Rattle.calls.specs.Table.{State, stateOf}
+use Rattle.calls.specs.Calls.{Answer, Move, Done, withActive, withQuota, recolour, called, settle}
+use Rattle.calls.specs.TakeBack.{takeBack}
 use Rattle.marshal.specs.BoardWords.{wordsFrom, boardOf, boardWords, wordsAfter, wordsLeft, lent}
 
 taken : (ws : List ℕ) (n k : ℕ) → k + n ≤ length ws → take n (drop k ws) ≡ wordsFrom k n ws
@@ -85,23 +86,38 @@ settled s ws [] done before after = after
 settled s ws (t ∷ ts) done before after =
     cases (t .fails) (λ e. rw e before) (λ e. rw e (settled s ws ts done before after))
 
-pub words-stand :
-    (ws table moves : List ℕ) (d c : ℕ)
-    → boardOf (wordsLeft (recolour (lent ws table) d c moves) ws) ≡ recolour (lent ws table) d c moves .next .board
-unfolding recolour called
-words-stand ws table moves d c =
+-- a call that may leave another active set
+active-stand :
+    (ws table : List ℕ) (d c : ℕ) (ts : List Test) (a : Answer) (ms : List Move) (t : List ℕ)
+    → let o = settle (lent ws table) (unless ts (record { answer = a; moves = ms; next = stateOf (withActive (boardOf ws) d c) t })) in
+    boardOf (wordsLeft o ws) ≡ o .next .board
+active-stand ws table d c ts a ms t =
     let b : Board = withActive (boardOf ws) d c in
     let long : length (b .active) ≡ 8 = simp length-set in
-    settled (lent ws table) ws _ _ refl (board-back b refl long refl)
+    settled (lent ws table) ws ts _ refl (board-back b refl long refl)
 
--- an accepted recolouring leaves a board with the new active set, so that one new word is all that there is to write
+module _ (ws table moves : List ℕ) (d c : ℕ) where
+  pub words-stand : boardOf (wordsLeft (recolour (lent ws table) d c moves) ws) ≡ recolour (lent ws table) d c moves .next .board
+  unfolding recolour called
+  words-stand = active-stand ws table d c _ _ _ _
+
+  pub words-stand-again : boardOf (wordsLeft (takeBack (lent ws table) d c moves) ws) ≡ takeBack (lent ws table) d c moves .next .board
+  unfolding takeBack called
+  words-stand-again = active-stand ws table d c _ _ _ _
+
+-- an accepted recolouring or taking back leaves a board with another active set, so that one new word is all that there is to write
 left : (s : State) (ws : List ℕ) (ts : List Test) (done : Done)
     → wordsAfter (settle s (unless ts done) .reply) (done .next .board) ws ≡ wordsLeft (settle s (unless ts done)) ws
 unfolding settle unless
 left s ws [] done = refl
 left s ws (t ∷ ts) done = cases (t .fails) (λ e. rw e) (λ e. rw e (left s ws ts done))
 
-pub words-left : (ws table moves : List ℕ) (d c : ℕ)
-    → wordsAfter (recolour (lent ws table) d c moves .reply) (withActive (boardOf ws) d c) ws ≡ wordsLeft (recolour (lent ws table) d c moves) ws
-unfolding recolour called
-words-left ws table moves d c = left (lent ws table) ws _ _
+module _ (ws table moves : List ℕ) (d c : ℕ) where
+  pub words-left : wordsAfter (recolour (lent ws table) d c moves .reply) (withActive (boardOf ws) d c) ws ≡ wordsLeft (recolour (lent ws table) d c moves) ws
+  unfolding recolour called
+  words-left = left (lent ws table) ws _ _
+
+  pub words-left-again :
+      wordsAfter (takeBack (lent ws table) d c moves .reply) (withActive (boardOf ws) d c) ws ≡ wordsLeft (takeBack (lent ws table) d c moves) ws
+  unfolding takeBack called
+  words-left-again = left (lent ws table) ws _ _

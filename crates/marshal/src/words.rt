@@ -36,7 +36,7 @@ pub fn board_of(words: &[u32; 27]) -> Board
     }
 }
 
-// The words after a recolouring: the domain's active set is the new one where the call answers, and a
+// The words after a recolouring or a taking back: the domain's active set is the new one where the call answers, and a
 // refusal writes none.
 pub fn write_recoloured(words: &mut [u32; 27], answer: Moved, domain: u32, set: u32)
     ensures { λ _. ⌜ now (words .exit) ≡ wordsAfter (paperMoved answer) (withActive (boardOf (now (words .entry))) domain set) (now (words .entry)) ⌝ }

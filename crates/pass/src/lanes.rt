@@ -1,11 +1,12 @@
-// Counts of the whole table: the frames that the domain holds, by which a quota is judged; and what a recolouring
-// is judged by, counted by lane, that is by a frame's number modulo sixteen: these frames, and the free ones.
+// Counts of the whole table: the frames that the domain holds, by which a quota is judged; and by lane, that is by a
+// frame's number modulo sixteen, these frames, by which a taking back is judged, and with them the free ones, by which a
+// recolouring is.
 ghost use mathlib.Core.Path.{_≡_};
 ghost use Prim.Native.Nat.{_≤_};
 ghost use lib.Dec.{eqb};
 ghost use lib.ListN.{length};
 ghost use Rattle.lists.specs.Choice.{if_then_else_};
-ghost use Rattle.kept.specs.Kept.{isOwn, Within, countAll};
+ghost use Rattle.kept.specs.Kept.{isOwn, zeros, Within, countAll};
 ghost use Rattle.pass.specs.Steps.{read, atMost, ownIn, surveyOf};
 use crate::block::is_own;
 
@@ -44,6 +45,19 @@ fn count_in(words: &[u16], first: u16, held: &mut [u16; 16], free: &mut [u16; 16
     }
 }
 
+// The same of the domain's words alone.
+fn count_held(words: &[u16], first: u16, held: &mut [u16; 16])
+    requires { ⌜ (length (now words) ≤ 16) × (16 ≡ length (now held)) × (first ≤ 61440) × Within 4096 (now held) ⌝ }
+    ensures { λ r. ⌜ now (held .exit) ≡ countAll (isOwn first) (now (held .entry)) 0 (now (words .entry)) ⌝ }
+{
+    let mut i: usize = 0;
+    while i < words.len() {
+        let word = words[i];
+        held[i] = (held[i] + is_own(word, first)) % 8192;
+        i += 1;
+    }
+}
+
 // How many words of the table are the domain's, in 16 bits, as the words are, so that the compiler counts many at
 // once.
 pub fn count_own(table: &[u16], first: u16) -> u16
@@ -75,4 +89,20 @@ pub fn survey(table: &[u16], first: u16) -> Surveyed
     }
     count_in(&table[taken..end], low, &mut held, &mut free);
     Surveyed { held, free }
+}
+
+// The domain's words of the whole table by lane.
+pub fn held_lanes(table: &[u16], first: u16) -> [u16; 16]
+    ensures { λ r. ⌜ r ≡ countAll (isOwn (atMost 61440 first)) zeros 0 (read (now (table .entry))) ⌝ }
+{
+    let low = at_most(61440, first as usize) as u16;
+    let end = at_most(4096, table.len());
+    let mut held = [0u16; 16];
+    let mut taken: usize = 0;
+    while 16 <= end - taken {
+        count_held(&table[taken..taken + 16], low, &mut held);
+        taken += 16;
+    }
+    count_held(&table[taken..end], low, &mut held);
+    held
 }

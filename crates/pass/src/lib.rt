@@ -1,6 +1,6 @@
 // The passes over the frame table, in blocks of sixteen frames. That of a fault: document 02, Nos. 2 and 7, the
 // words are taken in upwards, each once; what is kept between two words is `Kept` and the words of the block
-// under way. And the counts that a quota and a recolouring are judged by. Words beyond 4,096 are not read, since no table has
+// under way. And the counts that a quota, a recolouring and a taking back are judged by. Words beyond 4,096 are not read, since no table has
 // them.
 mod block;
 mod lanes;
@@ -17,6 +17,7 @@ use crate::lanes::at_most;
 use kept::Kept;
 pub use lanes::Surveyed;
 pub use lanes::count_own;
+pub use lanes::held_lanes;
 pub use lanes::survey;
 
 // What is kept when the words are over, or the page's word has come.

@@ -1,4 +1,4 @@
-// Answers the separate tool's vectors of the frame table: scripts of the six calls. The input is the
+// Answers the separate tool's vectors of the frame table: scripts of the seven calls. The input is the
 // words that `vectors_input` reads; output.rt writes the lines of each call. Tables, boards and move
 // lists are compared by a hash.
 use board::Board;
@@ -17,6 +17,20 @@ fn recolour(board: Board, table: &mut [u16], domain: u32, set: u32) -> Board {
     output::table(table);
     output::board(after);
     output::moves(moves, count);
+    after
+}
+
+// The list that a taking back reads is hashed afterwards too, since it must not change.
+fn take_back(board: Board, table: &mut [u16], domain: u32, set: u32) -> Board {
+    let mut room = [0u16; 13000];
+    let moves = vectors_input::next_table(&mut room);
+    let done = frames::take_back(board, table, domain, set, moves);
+    let answer = done.answer;
+    let after = done.board;
+    output::moved(answer);
+    output::table(table);
+    output::board(after);
+    output::list(moves);
     after
 }
 
@@ -44,14 +58,17 @@ fn answer_on(board: Board, table: &mut [u16], operation: u32, domain: u32, page:
     }
 }
 
-// A call's words are the operation, the domain, a page, a set or a quota, and the length of the move list,
-// which every call has and a recolouring alone uses.
+// A call's words are the operation, the domain, a page, a set or a quota, and the length of the move list, which
+// every call has and recolourings and takings back alone use; a taking back has the words of its list behind it.
 fn answer(board: Board, table: &mut [u16]) -> Board {
     let operation = next_word();
     let domain = next_word();
     let argument = next_word();
     if operation == 4 {
         return recolour(board, table, domain, argument);
+    }
+    if operation == 6 {
+        return take_back(board, table, domain, argument);
     }
     next_word();
     if 4 < operation {

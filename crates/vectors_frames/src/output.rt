@@ -1,5 +1,6 @@
-// The lines of each call: its reply, the hash of the table, after a quota is set that of the board, and after a
-// recolouring those of the board, the triples and the rest of the move list.
+// The lines of each call: its reply, the hash of the table, after a quota is set that of the board, after a
+// recolouring those of the board, the triples and the rest of the move list, and after a taking back those of the board
+// and of the list.
 use board::Board;
 use frames::ActiveColours;
 use frames::Faulted;
@@ -53,7 +54,7 @@ pub fn quota_set(answer: QuotaSet) {
     }
 }
 
-// The count of moves, 0 where the recolouring is refused.
+// The count of moves, 0 where the call is refused.
 pub fn moved(answer: Moved) -> u32 {
     match answer {
         Moved::Count(count) => {
@@ -86,4 +87,9 @@ pub fn moves(list: &[u16], count: u32) {
     let end = 3 * (count as usize);
     part(b" moves ", hash_table(list, 0, end) as u64);
     line(b" rest ", hash_table(list, end, list.len()));
+}
+
+// The list of a taking back.
+pub fn list(words: &[u16]) {
+    line(b" list ", hash_table(words, 0, words.len()));
 }

@@ -7,13 +7,14 @@ use reference::boards::{
     NO_QUOTAS,
 };
 use reference::frames::{Answer, Board, Call, State, FREE, PAGES};
+use reference::lists::any_take_back;
 use reference::random::Random;
 use reference::reply::Reply;
 
 use crate::interface::{self, Raw};
 use crate::lent::{Lent, LentBoard};
-use crate::quotas;
 use crate::tally::{unlike, Tally};
+use crate::{quotas, taking_back};
 
 const GUARD: u16 = 0x5AA5;
 
@@ -49,6 +50,7 @@ fn kind(call: &Call) -> &'static str {
         Call::Colours { .. } => "colours",
         Call::Recolour { .. } => "recolour",
         Call::SetQuota { .. } => "set quota",
+        Call::TakeBack { .. } => "take back",
     }
 }
 
@@ -61,6 +63,9 @@ fn run(call: &Call, board: &mut juzvanec::Board, table: &mut [u16], moves: &mut 
         Call::Colours { domain } => interface::colours(board, table, domain),
         Call::Recolour { domain, set, .. } => interface::recolour(board, table, domain, set, moves),
         Call::SetQuota { domain, quota } => interface::set_quota(board, table, domain, quota),
+        Call::TakeBack { domain, set, .. } => {
+            interface::take_back(board, table, domain, set, moves)
+        }
     }
 }
 
@@ -69,9 +74,12 @@ pub fn compare(state: &mut State, call: &Call, tally: &mut Tally) {
     let before = state.clone();
     let mut board = LentBoard::new(&state.board);
     let mut table = Lent::new(&state.table, GUARD);
-    let list: Vec<u16> = (0..call.room())
-        .map(|place| place as u16 ^ 0xC3C3)
-        .collect();
+    let list: Vec<u16> = match call {
+        Call::TakeBack { list, .. } => list.clone(),
+        _ => (0..call.room())
+            .map(|place| place as u16 ^ 0xC3C3)
+            .collect(),
+    };
     let mut moves = Lent::new(&list, GUARD);
     let found = run(call, &mut board.board, table.list_mut(), moves.list_mut());
     let mut after = list.clone();
@@ -88,6 +96,7 @@ pub fn compare(state: &mut State, call: &Call, tally: &mut Tally) {
     let differences = differences.into_iter().flatten();
     tally.count(kind(call), model.number, &(&before, call), differences);
     quotas::count(&before, call, reply, tally);
+    taking_back::count(&before, call, reply, tally);
 }
 
 /// A number of frames, seldom a large one.
@@ -189,12 +198,13 @@ fn any_recolour(random: &mut Random, state: &State, domain: u32) -> Call {
 pub fn any_call(random: &mut Random, state: &State, pages: &[u32]) -> Call {
     let domain = any_domain(random, state.board.domains);
     let page = any_page(random, pages);
-    match random.below(18) {
+    match random.below(20) {
         0..=2 => Call::Look { domain, page },
         3..=8 => Call::Fault { domain, page },
         9..=11 => Call::Release { domain, page },
         12 => Call::Colours { domain },
         13 | 14 => quotas::any_set_quota(random, state, domain),
+        15 | 16 => any_take_back(random, state, domain),
         _ => any_recolour(random, state, domain),
     }
 }

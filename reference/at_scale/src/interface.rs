@@ -165,6 +165,33 @@ pub fn recolour(
     raw(number, row, &[count])
 }
 
+/// The list is lent to be read alone. It comes here so that a library may be wrong and write it.
+pub fn take_back(
+    board: &mut Board,
+    table: &mut [u16],
+    domain: u32,
+    set: u32,
+    moves: &mut [u16],
+) -> Raw {
+    let [mut count, mut row] = [RUBBISH; 2];
+    // SAFETY: board, table and move list are valid for their lengths and lie apart; two words of this
+    // function's own are lent.
+    let number = unsafe {
+        raw::juzvanec_take_back(
+            board,
+            table.as_mut_ptr(),
+            table.len(),
+            domain,
+            set,
+            moves.as_mut_ptr(),
+            moves.len(),
+            &mut count,
+            &mut row,
+        )
+    };
+    raw(number, row, &[count])
+}
+
 /// The start and length of the part.
 pub fn part(tasks: &[u32], vcpu: u32) -> (usize, usize) {
     let [mut start, mut length] = [RUBBISH as usize; 2];

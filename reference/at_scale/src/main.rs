@@ -1,7 +1,7 @@
 //! The comparison at scale: the linked library, through its C interface, against the separate tool's own
 //! model, on quotas around what is held, on faults at chosen lengths of the table, on tables of chosen shapes, on
-//! recolourings with pages in chosen orders, and then on random cases from a seed. The last line is `N cases, D
-//! differences`; it fails where D is not 0, or where a kind of reply never occurs.
+//! recolourings with pages in chosen orders, on takings back with chosen lists, and then on random cases from a seed.
+//! The last line is `N cases, D differences`; it fails where D is not 0, or where a kind of reply never occurs.
 
 mod even;
 mod frames;
@@ -13,6 +13,7 @@ mod order;
 mod pages;
 mod plans;
 mod quotas;
+mod taking_back;
 mod tally;
 
 use std::process::ExitCode;
@@ -104,6 +105,10 @@ fn compare(seed: u64, until: &Until) -> Tally {
     if !until.found(&tally) {
         order::all(&mut tally);
     }
+    tally.orders = tally.cases - tally.around_held - tally.lengths - tally.shapes;
+    if !until.found(&tally) {
+        taking_back::all(&mut tally);
+    }
     tally.chosen = tally.cases;
     let start = Instant::now();
     while !until.bound.reached(&tally, start) && !until.found(&tally) {
@@ -119,6 +124,7 @@ fn compare(seed: u64, until: &Until) -> Tally {
             even::script(&mut random, &mut tally);
             order::script(&mut random, &mut tally);
             quotas::script(&mut random, &mut tally);
+            taking_back::script(&mut random, &mut tally);
         }
         plans::parts(&mut random, &mut tally);
         for _ in 0..10 {

@@ -180,7 +180,10 @@ fn around(colours: u32, frames: usize, held: usize, way: usize, tally: &mut Tall
         start.board.quotas[domain as usize] = quota;
         let grant = start.board.grants[domain as usize];
         let lowest = grant & grant.wrapping_neg();
+        let set = grant;
+        let list = Vec::new();
         let mut calls = vec![
+            Call::TakeBack { domain, set, list },
             Call::Fault {
                 domain,
                 page: UNMAPPED,
@@ -216,6 +219,7 @@ fn spoilt(tally: &mut Tally) {
                     let page = HELD[0];
                     let (set, room) = (0x2, 0);
                     let quota = 5;
+                    let list = vec![page as u16, 1, 0];
                     for call in [
                         Call::Look { domain, page },
                         Call::Fault { domain, page },
@@ -223,6 +227,7 @@ fn spoilt(tally: &mut Tally) {
                         Call::Colours { domain },
                         Call::Recolour { domain, set, room },
                         Call::SetQuota { domain, quota },
+                        Call::TakeBack { domain, set, list },
                     ] {
                         compare(&mut start.clone(), &call, tally);
                     }

@@ -4,12 +4,12 @@
 use std::collections::BTreeMap;
 use std::fmt::Debug;
 
-use crate::quotas::Seen;
+use crate::{quotas, taking_back};
 
 const SHOWN: u64 = 5;
 
 /// The functions of the interface, with the refusals that each can give.
-pub const KINDS: [(&str, &[u32]); 13] = [
+pub const KINDS: [(&str, &[u32]); 14] = [
     ("interface", &[]),
     ("cache sizes", &[2]),
     ("layout", &[2, 9, 10]),
@@ -20,6 +20,7 @@ pub const KINDS: [(&str, &[u32]); 13] = [
     ("colours", &[2, 3, 4, 5, 6, 7, 26, 8]),
     ("set quota", &[2, 3, 4, 5, 6, 7, 26, 8, 27]),
     ("recolour", &[2, 3, 4, 5, 6, 7, 26, 8, 9, 12, 13]),
+    ("take back", &[2, 3, 4, 5, 6, 7, 26, 8, 9, 31, 32]),
     ("part", &[]),
     // whatever the quotas, so that 26 never shows
     ("plan", &[2, 3, 4, 5, 6, 7, 15, 16, 17, 18, 19, 20, 21, 22]),
@@ -51,15 +52,17 @@ pub struct Short {
 pub struct Tally {
     pub cases: u64,
     /// The chosen ones among them, and of these the calls around what is held, the faults at chosen lengths of the
-    /// table and the calls on tables of chosen shapes.
+    /// table, the calls on tables of chosen shapes and the recolourings with pages in chosen orders.
     pub chosen: u64,
     pub around_held: u64,
     pub lengths: u64,
     pub shapes: u64,
+    pub orders: u64,
     pub differences: u64,
     pub rounds: Rounds,
     pub short: Short,
-    pub quotas: Seen,
+    pub quotas: quotas::Seen,
+    pub taken: taking_back::Seen,
     seen: BTreeMap<(&'static str, u32), u64>,
 }
 
@@ -107,7 +110,7 @@ impl Tally {
             missing += u32::from(self.of(kind, 0) == 0);
             println!("{line}");
         }
-        for number in (1..=22).chain(26..=28) {
+        for number in (1..=22).chain(26..=28).chain(31..=32) {
             let count: u64 = KINDS.iter().map(|(kind, _)| self.of(kind, number)).sum();
             println!("refusal {number}: {count} cases");
         }
@@ -122,19 +125,24 @@ impl Tally {
         println!(
             "{all} rounds for {found} times, {most} at most for one, {at_bound} at a bound above 2"
         );
-        let quotas = self.quotas.counts();
-        let line = quotas.map(|(of, count)| format!("{of} {count}"));
-        println!("{}", line.join(", "));
-        let orders = self.chosen - self.around_held - self.lengths - self.shapes;
+        let (quotas, taken) = (self.quotas.counts(), self.taken.counts());
+        for counts in [&quotas[..], &taken] {
+            let line: Vec<String> = counts
+                .iter()
+                .map(|(of, count)| format!("{of} {count}"))
+                .collect();
+            println!("{}", line.join(", "));
+        }
+        let before = [self.around_held, self.lengths, self.shapes, self.orders];
+        let lists = self.chosen - before.iter().sum::<u64>();
         println!(
             "{} calls around what is held, {} faults at chosen lengths of the table, {} calls on tables of chosen \
-             shapes, {orders} recolourings with pages in chosen orders",
-            self.around_held, self.lengths, self.shapes
+             shapes, {} recolourings with pages in chosen orders, {lists} takings back with chosen lists",
+            self.around_held, self.lengths, self.shapes, self.orders
         );
-        let chosen = [self.around_held, self.lengths, self.shapes, orders];
-        let random = [times, rounds, at_bound];
-        let counts = quotas.map(|(_, count)| count);
-        for count in counts.iter().chain(&chosen).chain(&random) {
+        let random = [times, rounds, at_bound, lists];
+        let counts = quotas.iter().chain(&taken).map(|(_, count)| count);
+        for count in counts.chain(&before).chain(&random) {
             missing += u32::from(*count == 0);
         }
         if missing > 0 {

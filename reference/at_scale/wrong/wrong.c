@@ -18,6 +18,7 @@ RIGHT(release);
 RIGHT(colours);
 RIGHT(set_quota);
 RIGHT(recolour);
+RIGHT(take_back);
 RIGHT(part);
 RIGHT(admit_plan);
 RIGHT(admit);
@@ -201,6 +202,15 @@ uint32_t juzvanec_recolour(struct juzvanec_board *board, uint16_t *table, size_t
     if (wrong("recolour-beyond"))
         moves[move_words] = 0;
     return number;
+}
+
+uint32_t juzvanec_take_back(struct juzvanec_board *board, uint16_t *table, size_t table_words,
+                            uint32_t domain, uint32_t set, const uint16_t *moves, size_t move_words,
+                            uint32_t *count, uint32_t *row)
+{
+    if (spoils_takings_back())
+        return back_take_back(board, table, table_words, domain, set, moves, move_words, count, row);
+    return right_take_back(board, table, table_words, domain, set, moves, move_words, count, row);
 }
 
 void juzvanec_part(const uint32_t *tasks, size_t task_words, uint32_t vcpu, size_t *start, size_t *length)

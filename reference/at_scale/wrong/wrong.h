@@ -29,4 +29,8 @@ extern __typeof__(juzvanec_set_quota) quota_set_quota;
 extern __typeof__(juzvanec_recolour) quota_recolour;
 int is_quota(uint32_t quota);
 
+/* Whether it is wrong in takings back, and the call with these. */
+int spoils_takings_back(void);
+extern __typeof__(juzvanec_take_back) back_take_back;
+
 #endif
