@@ -239,6 +239,10 @@ examples =
     ∷ Reply-after recorder (then-recoloured ++ (SetQuota 0 2 ∷ [])) taken-back (Answers (Moved 1))
     -- once more, and frame 4 has no word for page 1
     ∷ Reply-after recorder (then-others ++ (taken-back ∷ [])) taken-back (Refuses 31 0)
+    -- a page of the list that was released: its frame is free, it is unmapped, and the list does not fit any more
+    ∷ Table-after recorder (then-others ++ (Release 0 1 ∷ [])) (10 ∷ 0 ∷ 4097 ∷ 4100 ∷ 0 ∷ 0 ∷ 0 ∷ 0 ∷ [])
+    ∷ Reply-after recorder (then-others ++ (Release 0 1 ∷ [])) (Release 0 1) (Refuses 14 0)
+    ∷ Reply-after recorder (then-others ++ (Release 0 1 ∷ [])) taken-back (Refuses 31 0)
     -- the triples may stand in any order, and a page may have the number of a frame; an empty list moves nothing; page 4,095 is a page
     ∷ Reply-after uneven (to-the-middle ∷ []) from-the-middle (Answers (Moved 3))
     ∷ Table-after uneven (to-the-middle ∷ from-the-middle ∷ []) (8 ∷ 1 ∷ 0 ∷ 6 ∷ 0 ∷ 2 ∷ 0 ∷ 65535 ∷ 7 ∷ 0 ∷ 3 ∷ 0 ∷ [])
