@@ -43,15 +43,19 @@ wrongTriple t n frames d c m =
     || not (hasWord t (wordOf d (m .page)) (m .target))
     || not (isFree t n c (m .source))
 
+-- And against a list: no multiple of three words, such a triple, or a frame twice.
+abbrev pub wrongWords : List ℕ → ℕ → ℕ → ℕ → ℕ → List ℕ → Bool
+wrongWords t n frames d c list =
+    not (eqb (length list % 3) 0)
+    || anyMove (wrongTriple t n frames d c) (moveList list)
+    || twice (framesNamed (moveList list))
+
+-- both in a state
 abbrev pub wrongMove : State → ℕ → ℕ → Move → Bool
 wrongMove s d c m = wrongTriple (s .table) (s .board .colours) (s .board .frames) d c m
 
--- and against a list: no multiple of three words, such a triple, or a frame twice
 abbrev pub wrongList : State → ℕ → ℕ → List ℕ → Bool
-wrongList s d c list =
-    not (eqb (length list % 3) 0)
-    || anyMove (wrongMove s d c) (moveList list)
-    || twice (framesNamed (moveList list))
+wrongList s d c list = wrongWords (s .table) (s .board .colours) (s .board .frames) d c list
 
 -- each triple the other way: from the new frame to the old one
 abbrev pub back : Move → Move

@@ -1,9 +1,8 @@
 -- Take back as a call: 2 to 8, 26 and 9, then 31 and 32 by the table and the list, and what it leaves by that reply.
-use Prim.Native.Nat.{ℕ, _%_}
-use mathlib.Core.Bool.{Bool, not, _||_}
+use Prim.Native.Nat.{ℕ}
+use mathlib.Core.Bool.{Bool, not}
 use mathlib.Core.List.{List, [], _∷_, _++_, append-assoc}
 use mathlib.Core.Path.{_≡_, refl, sym, ap, ap₂, _∙_}
-use lib.Dec.{eqb}
 use lib.ListN.{length}
 use Rattle.lists.specs.Range.{isEmpty}
 use Rattle.refusal.specs.Reply.{Reply, Answers, Refuses, Test, test, unless}
@@ -13,7 +12,7 @@ use Rattle.board.specs.declared.Board.{Board}
 use Rattle.board.specs.Tests.{grant, emptyOrOutside, callTests}
 use Rattle.calls.specs.Table.{State, stateOf, framesWith, strays}
 use Rattle.calls.specs.Calls.{Answer, Done, Outcome, Moved, settle, called, moveAll, withActive}
-use Rattle.calls.specs.TakeBack.{moveList, anyMove, framesNamed, twice, backward, wrongTriple, wrongList, restored, takeBack}
+use Rattle.calls.specs.TakeBack.{moveList, backward, wrongWords, wrongList, restored, takeBack}
 use Rattle.frames.specs.Steps.{setReply}
 use Rattle.frames.specs.Triples.{wrongTriples, left, takenBack}
 use Rattle.frames.proofs.Called.{refused}
@@ -59,8 +58,7 @@ module _ (b : Board) (t : List ℕ) (d c : ℕ) (list : List ℕ) where
     -- 31 and 32 by the table's length
     wrong-is : wrongList s d c list ≡ wrongTriples t (b .colours) d c list
     unfolding wrongTriples
-    wrong-is =
-        ap (λ (n : ℕ). not (eqb (length list % 3) 0) || anyMove (wrongTriple t (b .colours) n d c) (moveList list) || twice (framesNamed (moveList list))) (sym long)
+    wrong-is = ap (λ (n : ℕ). wrongWords t (b .colours) n d c list) (sym long)
 
     left-is : strays (restored s d c list) d c ≡ left t (b .colours) d c list
     unfolding strays framesWith

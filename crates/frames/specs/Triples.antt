@@ -11,21 +11,19 @@ use Rattle.lists.specs.Range.{upto, keep, isEmpty}
 use Rattle.refusal.specs.Reply.{Reply, test, unless}
 use Rattle.calls.specs.Table.{inSet, isStray}
 use Rattle.calls.specs.Calls.{Answer, Moved, Move, moveAll}
-use Rattle.calls.specs.TakeBack.{moveList, anyMove, framesNamed, twice, wrongTriple, backward}
+use Rattle.calls.specs.TakeBack.{moveList, anyMove, wrongTriple, wrongWords, backward}
 use Rattle.frames.specs.declared.taking_back.Triples.{Triples}
 use Rattle.frames.specs.declared.taking_back.Triples.the-variants.{Wrong, Outside}
 
 abbrev pub moveOf : ℕ → ℕ → ℕ → Move
 moveOf p v g = record { page = p; source = v; target = g }
 
--- what 31 has against a triple by itself
+-- what 31 has against a triple by itself, and against a list
 abbrev pub unfit : List ℕ → ℕ → ℕ → ℕ → Move → Bool
 unfit t n d c m = wrongTriple t n (length t) d c m
 
--- and against a list
 unfoldable pub wrongTriples : List ℕ → ℕ → ℕ → ℕ → List ℕ → Bool
-wrongTriples t n d c list =
-    not (eqb (length list % 3) 0) || anyMove (unfit t n d c) (moveList list) || twice (framesNamed (moveList list))
+wrongTriples t n d c list = wrongWords t n (length t) d c list
 
 -- a frame that is marked
 abbrev pub isMarked : List ℕ → ℕ → Bool

@@ -1,15 +1,15 @@
 // Taking a recolouring back: document 02, No. 10, with refusals 31 and 32. The triples are tested one by one, with
 // marks for the frames that they name; the list is only read, and what is lent changes where all tests have passed.
 ghost use mathlib.Core.Path.{_≡_};
-ghost use mathlib.Core.Bool.{true, false, not};
-ghost use Prim.Native.Nat.{ℕ, _≤_, _<_};
+ghost use mathlib.Core.Bool.{true, not};
+ghost use Prim.Native.Nat.{_≤_, _<_};
 ghost use lib.ListN.{length, getD, set as store};
 ghost use Rattle.colours.specs.Cache.{isColourCount};
 ghost use Rattle.calls.specs.Table.{stateOf};
 ghost use Rattle.calls.specs.Calls.{moveAll};
 ghost use Rattle.calls.specs.TakeBack.{takeBack, moveList, backward};
 ghost use Rattle.frames.specs.Paper.{paperMoved};
-ghost use Rattle.frames.specs.Triples.{unfit, moveOf, isMarked, outside, wrongTriples, triplesOf, NamesFrames, takenBack};
+ghost use Rattle.frames.specs.Triples.{unfit, moveOf, isMarked, outside, triplesOf, NamesFrames, takenBack};
 use crate::moving::move_word;
 use crate::recolouring::Moved;
 use crate::recolouring::Recoloured;
@@ -29,6 +29,7 @@ pub(crate) enum Triples {
     Outside(usize),
 }
 
+// A word of the list: as the result of a call it is known to have 16 bits where it is taken for a frame.
 fn word_at(moves: &[u16], at: usize) -> u16
     requires { ⌜ at < length (now moves) ⌝ }
     ensures { λ r. ⌜ r ≡ getD (now (moves .entry)) at 0 ⌝ }
