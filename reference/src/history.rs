@@ -6,6 +6,8 @@
 //! of document 02, No. 7: as long as a domain neither releases nor moves frames, its frames lie evenly over its active
 //! colours, as far as these have free frames.
 
+use std::collections::BTreeSet;
+
 use crate::boards::{accepted, any_domain, any_page, any_set, empty_table, part_of, NO_QUOTAS};
 use crate::cache::colours;
 use crate::frames::{
@@ -18,20 +20,20 @@ use crate::reply::Reply;
 
 /// What a call tells its domain: the reply, and the move list that it was lent as it stands afterwards.
 #[derive(Clone, Debug, PartialEq, Eq)]
-struct Answered {
-    reply: Reply<Answer>,
-    list: Vec<u16>,
+pub(crate) struct Answered {
+    pub(crate) reply: Reply<Answer>,
+    pub(crate) list: Vec<u16>,
 }
 
 /// How calls run: as in the model, or in a test as in a loader that does wrong.
-type Step = fn(&mut State, &Call) -> Answered;
+pub(crate) type Step = fn(&mut State, &Call) -> Answered;
 
-fn step(state: &mut State, call: &Call) -> Answered {
+pub(crate) fn step(state: &mut State, call: &Call) -> Answered {
     answered(call, |list| state.call(call, list))
 }
 
 /// What a call is answered that runs so, with a move list of its own.
-fn answered(call: &Call, run: impl FnOnce(&mut [u16]) -> Reply<Answer>) -> Answered {
+pub(crate) fn answered(call: &Call, run: impl FnOnce(&mut [u16]) -> Reply<Answer>) -> Answered {
     let mut list = vec![7; call.room()];
     let reply = run(&mut list);
     Answered { reply, list }
@@ -281,6 +283,12 @@ fn map(table: &[u16], domain: u32) -> Vec<Option<usize>> {
     frames
 }
 
+/// Whether none of the words stands there twice.
+pub(crate) fn once(mut words: impl Iterator<Item = u16>) -> bool {
+    let mut met = BTreeSet::new();
+    words.all(|held| met.insert(held))
+}
+
 fn own(history: &[Call], domain: u32) -> Vec<Call> {
     let named = history.iter().filter(|call| call.domain() == domain);
     named.cloned().collect()
@@ -314,14 +322,14 @@ fn asked_quota(random: &mut Random) -> u32 {
 }
 
 /// An accepted board, an empty table and a few pages that calls name again and again.
-struct Trial {
-    start: State,
-    pages: Vec<u32>,
-    step: Step,
+pub(crate) struct Trial {
+    pub(crate) start: State,
+    pub(crate) pages: Vec<u32>,
+    pub(crate) step: Step,
 }
 
 impl Trial {
-    fn new(random: &mut Random, step: Step) -> Self {
+    pub(crate) fn new(random: &mut Random, step: Step) -> Self {
         let n = random.pick(&[1, 2, 4, 4, 8, 8, 8, 16]);
         // seldom one domain alone, where there is nothing to keep apart
         let domains = random.pick(&[1, 2, 2, 2, 3, 3, 4, 8]).min(n) as u32;
@@ -527,28 +535,25 @@ impl Trial {
     /// What no history changes: no two domains hold frames of one colour, words reserved at the start
     /// and no others are reserved, no page of a domain has two frames, and no domain is above its quota.
     fn kept(&self, state: &State) -> bool {
-        if !self.within_quotas(state) {
-            return false;
-        }
+        let held = |word: &(usize, u16)| ![FREE, RESERVED].contains(&word.1);
+        let words = || state.table.iter().copied().enumerate().filter(held);
         let n = state.board.colours as usize;
         let mut holders = vec![None; n];
-        let mut words = std::collections::BTreeSet::new();
-        for (frame, held) in state.table.iter().copied().enumerate() {
-            let reserved = self.start.table[frame] == RESERVED;
-            if reserved != (held == RESERVED) {
-                return false;
-            }
-            if held == FREE || reserved {
-                continue;
-            }
-            let holder = Some((u32::from(held) - 1) / PAGES);
-            let colour = frame % n;
-            if !words.insert(held) || holders[colour].is_some() && holders[colour] != holder {
-                return false;
-            }
-            holders[colour] = holder;
-        }
-        true
+        let one_holder = |(frame, held): (usize, u16)| {
+            let holder = (u32::from(held) - 1) / PAGES;
+            *holders[frame % n].get_or_insert(holder) == holder
+        };
+        self.within_quotas(state)
+            && self.reserved_kept(state)
+            && once(words().map(|(_, held)| held))
+            && words().all(one_holder)
+    }
+
+    /// Whether words reserved at the start and no others are reserved.
+    pub(crate) fn reserved_kept(&self, state: &State) -> bool {
+        let reserved = |held: &u16| *held == RESERVED;
+        let now = state.table.iter().map(reserved);
+        self.start.table.iter().map(reserved).eq(now)
     }
 
     fn call_of(&self, random: &mut Random, domain: u32) -> Call {
@@ -572,7 +577,7 @@ impl Trial {
     }
 
     /// Any other number.
-    fn other_domain(&self, random: &mut Random, domain: u32) -> u32 {
+    pub(crate) fn other_domain(&self, random: &mut Random, domain: u32) -> u32 {
         match any_domain(random, self.start.board.domains) {
             same if same == domain => self.start.board.domains,
             other => other,
@@ -580,6 +585,11 @@ impl Trial {
     }
 
     fn history(&self, random: &mut Random) -> Vec<Call> {
+        self.drawn(random).calls
+    }
+
+    /// A history from the start, and the state after it.
+    pub(crate) fn drawn(&self, random: &mut Random) -> Drawn<'_> {
         let each = 4 + self.pages.len() as u64;
         let domains = self.start.board.domains;
         let length = random.below(4 + each * u64::from(domains));
@@ -588,7 +598,7 @@ impl Trial {
             let domain = any_domain(random, domains);
             drawn.add_of(random, domain);
         }
-        drawn.calls
+        drawn
     }
 
     /// Faults of pages that are seldom mapped, and any calls of one domain, perhaps; the others' releases,
@@ -704,15 +714,15 @@ struct Done {
 }
 
 /// Calls that run while they are drawn, so that a domain can take back what it has done.
-struct Drawn<'a> {
-    trial: &'a Trial,
-    state: State,
+pub(crate) struct Drawn<'a> {
+    pub(crate) trial: &'a Trial,
+    pub(crate) state: State,
     done: Vec<Done>,
-    calls: Vec<Call>,
+    pub(crate) calls: Vec<Call>,
 }
 
 impl<'a> Drawn<'a> {
-    fn new(trial: &'a Trial, from: &State) -> Self {
+    pub(crate) fn new(trial: &'a Trial, from: &State) -> Self {
         Drawn {
             trial,
             state: from.clone(),
@@ -721,7 +731,7 @@ impl<'a> Drawn<'a> {
         }
     }
 
-    fn add(&mut self, call: Call) {
+    pub(crate) fn add(&mut self, call: Call) {
         let active = self.state.board.active;
         let told = (self.trial.step)(&mut self.state, &call);
         if let (&Call::Recolour { domain, .. }, Reply::Answer(Answer::Moved(count))) =
@@ -737,7 +747,7 @@ impl<'a> Drawn<'a> {
     }
 
     /// Any call of a domain.
-    fn add_of(&mut self, random: &mut Random, domain: u32) {
+    pub(crate) fn add_of(&mut self, random: &mut Random, domain: u32) {
         let call = self.call_of(random, domain);
         self.add(call);
     }

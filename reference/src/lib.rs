@@ -1,6 +1,7 @@
 //! The separate tool: the recorder's rules written anew from the papers, without a look at the proved
 //! code. As a library it is the model that callers of the proved code compare it with.
 
+pub mod accounts;
 pub mod admit;
 pub mod boards;
 pub mod cache;

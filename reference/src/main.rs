@@ -1,13 +1,13 @@
 //! The separate tool's command. It writes the vectors that the programs `vectors_*` answer, or checks
-//! those in the tree; it runs random histories of the frame calls against the domain rule; and it answers
-//! as the program `admit` does, and compares that program with itself.
+//! those in the tree; it runs random histories of the frame calls against the domain rule and the accounts of frames;
+//! and it answers as the program `admit` does, and compares that program with itself.
 
 use std::io::{self, Read, Write};
 use std::path::Path;
 use std::process::ExitCode;
 use std::time::Duration;
 
-use reference::{admit, compare::compare as compare_program, history, vectors, SEED};
+use reference::{accounts, admit, compare::compare as compare_program, history, vectors, SEED};
 
 const USAGE: &str =
     "usage: reference write DIR [SEED] | reference check DIR | reference histories [SEED]
@@ -15,12 +15,15 @@ const USAGE: &str =
   write      writes DIR/vectors_*/stdin and stdout; another seed gives other random cases
   check      says whether those files are what `write` would write today
   histories  runs random histories of the frame calls and says whether the domain rule holds of them, whether
-             no domain is above its quota, whether a recolouring that is taken back leaves what was before it, and
-             whether domains that only take frames use their colours evenly
+             no domain is above its quota, whether a recolouring that is taken back leaves what was before it,
+             whether domains that only take frames use their colours evenly, whether each domain holds the frames
+             that its log of calls says, no page in two of them and reserved words as they were, and whether a frame
+             that is released as the only free one is had by the next fault
   admit      reads a plan from standard input and prints what the program `admit` prints
   compare    runs a compiled `admit` (target/bin/admit) on random inputs (4000) and says where it differs";
 
-/// Pairs of histories that `histories` compares, and histories in which it looks at how evenly frames lie.
+/// Pairs of histories that `histories` compares, histories in which it looks at how evenly frames lie, and histories
+/// in which it counts them.
 const PAIRS: u32 = 12_000;
 
 /// What `compare` runs, on how many inputs, and how long it waits for each.
@@ -74,7 +77,9 @@ fn histories(seed: u64) -> bool {
     tally.report();
     let evenness = history::check_even(seed, PAIRS);
     evenness.report();
-    tally.good() && evenness.good()
+    let accounts = accounts::check(seed, PAIRS);
+    accounts.report();
+    tally.good() && evenness.good() && accounts.good()
 }
 
 fn answer() -> bool {

@@ -164,7 +164,7 @@ pub fn only_above(state: &mut State, call: &Call, moves: &mut [u16]) -> Reply<An
 }
 
 /// The last frame of the quota is not given.
-fn one_early(state: &mut State, call: &Call, moves: &mut [u16]) -> Reply<Answer> {
+pub fn one_early(state: &mut State, call: &Call, moves: &mut [u16]) -> Reply<Answer> {
     faults_by(state, call, moves, |state, domain| {
         frames_held(&state.table, domain) + 1
     })

@@ -7,6 +7,8 @@ impl Random {
         Random(seed)
     }
 
+    /// Any number. There is always one more, so that an iterator's `Option` would say nothing.
+    #[allow(clippy::should_implement_trait)]
     pub fn next(&mut self) -> u64 {
         self.0 = self.0.wrapping_add(0x9E37_79B9_7F4A_7C15);
         let mut z = self.0;
