@@ -13,7 +13,7 @@ use borrow.Author.Tests.{eq-eqb, ne-eqb, eqb-true, lt-ltb, ltb-true}
 use Rattle.lists.specs.Range.{upto, keep, isEmpty, headOr, lowest}
 use Rattle.lists.proofs.Split.{cases, below-or-not, and-both}
 use Rattle.lists.proofs.Members.{Each, head-has}
-use Rattle.lists.proofs.Filter.{each-map, same-kept}
+use Rattle.lists.proofs.Filter.{each-map, kept-only, same-kept}
 use Rattle.lists.proofs.Found.{found, kept-missed}
 use Rattle.lists.proofs.Same.{same-lowest, some-kept, some-lowest, one-fewer}
 use Rattle.lists.proofs.Fewest.{fewest-found, fewest-there, fewest-before, same-fewest}
@@ -110,6 +110,18 @@ chosen s d c coloured =
     each-map (λ (f : ℕ). (f < s .board .frames) × (free f ≡ true)) (Chosen s c)
     (λ f r. let o = free-parts (s .table) (s .board .colours) c f (r .1) in record { below = r .0; free = o .0; inside = o .1 })
     (choices s d c) (each-free (s .board .colours) (s .board .frames) coloured free (length (frees s c)) _ _ (λ f e. e) (le-refl _))
+
+-- where one frame alone is free in the set, it is the choice
+pub only-choice : (s : State) (d c f : ℕ) → 0 < s .board .colours → frees s c ≡ f ∷ [] → (isEmpty (choices s d c) ≡ false) × (headOr 0 (choices s d c) ≡ f)
+unfolding choices frees framesWith
+only-choice s d c f coloured only =
+    let n : ℕ = s .board .colours in
+    let m : ℕ = s .board .frames in
+    let free : ℕ → Bool = isFree (s .table) n c in
+    let count = taken-count (length (frees s c)) n m free (isHeld (s .table) d) in
+    let some : isEmpty (choices s d c) ≡ false = some-member (choices s d c) (omega (arith, count, ap length only)) in
+    let k = head-has (Chosen s c) (choices s d c) (chosen s d c coloured) some in
+    (some, kept-only free m f (headOr 0 (choices s d c)) only (k .below) (rw (eq-eqb _ _ (k .free), k .inside) refl))
 
 -- The first of them. Of the colours of the set with a free frame, the domain holds in none fewer than in its colour, and in each lower one more; and of
 -- its colour it is the lowest free frame

@@ -3,14 +3,15 @@
 use Prim.Native.Nat.{ℕ, _%_, _<_}
 use native.Mathlib.Nat.{mul-mod-right}
 use native.Mathlib.Omega.{arith}
-use mathlib.Core.Bool.{Bool, true, false, true≢false}
+use mathlib.Core.Bool.{Bool, true, false, _||_, true≢false}
 use mathlib.Core.List.{List, [], _∷_, _++_}
 use mathlib.Core.Path.{_≡_, refl, sym, ap, ap₂, _∙_}
 use lib.Dec.{eqb}
 use lib.ListN.{length, set, length-set}
 use lib.Seq.{getD-set-same, getD-set-other, set-getD, set-set, set-comm}
-use borrow.Author.Tests.{eq-eqb, ne-eqb, le-ltb, le-leb, lt-leb, not-false}
+use borrow.Author.Tests.{eqb-false, eq-eqb, ne-eqb, le-ltb, le-leb, lt-leb, not-false}
 use Rattle.lists.specs.Range.{any}
+use Rattle.lists.proofs.Split.{neither}
 use Rattle.lists.proofs.Filter as filter
 use Rattle.refusal.specs.Reply.{Answers, Test, passes}
 use Rattle.refusal.proofs.Replies.{passed-answers}
@@ -142,6 +143,33 @@ named-once n (m ∷ ms) apart fit =
       not-named (m .target) ms (each-map (λ a h. (h .in-out, h .targets)) ms (apart .0)),
     )
     (named-once n ms (apart .1) (fit .1))
+
+-- and moves that name no frame twice are apart, the other way
+named-off : (f : ℕ) (ms : List Move) → any (eqb f) (framesNamed ms) ≡ false → Each (Off f) ms
+unfolding framesNamed
+named-off f [] e = tt
+named-off f (m ∷ ms) e =
+    let a = neither (eqb f (m .source)) _ e in
+    let b = neither (eqb f (m .target)) _ (a .1) in
+    ((eqb-false f (m .source) (a .0), eqb-false f (m .target) (b .0)), named-off f ms (b .1))
+
+pub once-apart : (ms : List Move) → twice (framesNamed ms) ≡ false → Sorted Apart (backward ms)
+unfolding framesNamed twice backward
+once-apart [] e = tt
+once-apart (m ∷ ms) e =
+    let rest : List ℕ = framesNamed ms in
+    let a = neither (eqb (m .source) (m .target) || any (eqb (m .source)) rest) (any (eqb (m .target)) rest || twice rest) e in
+    let b = neither (any (eqb (m .target)) rest) (twice rest) (a .1) in
+    let old = named-off (m .source) ms (neither (eqb (m .source) (m .target)) (any (eqb (m .source)) rest) (a .0) .1) in
+    let new = named-off (m .target) ms (b .0) in
+    (both ms old new, once-apart ms (b .1))
+  where
+    both : (l : List Move) → Each (Off (m .source)) l → Each (Off (m .target)) l → Each (Apart (back m)) (backward l)
+    both [] old new = tt
+    both (a ∷ l) old new = (
+      record { sources = new .0 .1; targets = old .0 .0; out-in = new .0 .0; in-out = old .0 .1 },
+      both l (old .1) (new .1),
+    )
 
 -- the former set made active again is all that was active
 set-back : (b : Board) (d c : ℕ) → withActive (withActive b d c) d (activeSet b d) ≡ b

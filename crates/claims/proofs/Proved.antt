@@ -29,6 +29,7 @@ use Rattle.claims.proofs.EvenUse.{even-use-claims}
 use Rattle.claims.proofs.PageOrder.{page-order-claims}
 use Rattle.claims.proofs.Quotas.{quota-claims}
 use Rattle.claims.proofs.TakingBack.{taking-back-claims}
+use Rattle.claims.proofs.Accounts.{account-claims}
 use Rattle.claims.proofs.Reload.{reloaded-counts}
 use Rattle.claims.proofs.Rounds as reached
 
@@ -145,6 +146,7 @@ claims =
       page-order = page-order-claims;
       quotas = quota-claims;
       taking-back = taking-back-claims;
+      accounts = account-claims;
       one-pass = one-pass-claims;
       supply = supply-claims;
       times = time-claims;

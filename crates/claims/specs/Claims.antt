@@ -11,6 +11,7 @@ use Rattle.claims.specs.EvenUse.{EvenUseClaims}
 use Rattle.claims.specs.PageOrder.{PageOrderClaims}
 use Rattle.claims.specs.Quotas.{QuotaClaims}
 use Rattle.claims.specs.TakingBack.{TakingBackClaims}
+use Rattle.claims.specs.Accounts.{AccountClaims}
 use Rattle.claims.specs.OnePass.{OnePassClaims}
 use Rattle.claims.specs.Times.{SupplyClaims, TimeClaims}
 use Rattle.claims.specs.Reload.{ReloadClaims}
@@ -34,6 +35,8 @@ pub record Claims : Type 0 where
   pub quotas : QuotaClaims
   -- Taking a recolouring back: document 02, No. 10.
   pub taking-back : TakingBackClaims
+  -- Frames accounted for: document 02, No. 14.
+  pub accounts : AccountClaims
   -- A fault goes over the table once: document 02, No. 2.
   pub one-pass : OnePassClaims
   -- The supply of a periodic resource, and what a planner relies on.

@@ -1,29 +1,27 @@
 -- What holds after any history from an accepted board and an empty table, beside the domain rule: document 01, "Board and frame table" and
 -- "Colours of the cache". With it the laws of the choice of a free frame, of any table, on which the rule stands.
-use Prim.Native.Nat.{ℕ, _<_, _≤_}
+use Prim.Native.Nat.{ℕ, _<_}
 use mathlib.Core.Bool.{true}
 use mathlib.Core.List.{List}
-use mathlib.Core.Logic.{_↔_}
 use mathlib.Core.Path.{_≡_}
 use lib.Dec.{eqb}
 use Rattle.lists.specs.Range.{any}
 use Rattle.colours.specs.Cache.{colourOf, pageOf, cacheSet}
 use Rattle.colours.specs.Sets.{has}
 use Rattle.board.specs.Tests.{grant}
-use Rattle.calls.specs.Table.{State, word, wordOf, isOf, inSet}
+use Rattle.calls.specs.Table.{State, word, isOf, inSet}
 use Rattle.calls.specs.Choices.{choices}
 use Rattle.isolation.specs.DomainRule.{Call, run, Accepted, Empty}
+use Rattle.isolation.specs.Accounts.{OneFrameAPage, SameReserved}
 
 pub record HistoryClaims : Type 0 where
   -- Reserved words never change, and no other word becomes one.
   pub reserved-stays :
-      (start : State) → Accepted start → Empty start → (h : List Call)
-      → (f : ℕ) → f < start .board .frames → (word (run start h .table) f ≡ 65535) ↔ (word (start .table) f ≡ 65535)
+      (start : State) → Accepted start → Empty start → (h : List Call) → SameReserved start (run start h)
   -- No page of a domain has two frames.
   pub one-frame-a-page :
       (start : State) → Accepted start → Empty start → (h : List Call)
-      → (d p f g : ℕ) → d < start .board .domains → p ≤ 4095 → f < start .board .frames → g < start .board .frames
-      → word (run start h .table) f ≡ wordOf d p → word (run start h .table) g ≡ wordOf d p → f ≡ g
+      → (d : ℕ) → d < start .board .domains → OneFrameAPage d (run start h)
   -- Every held frame's colour is in its domain's grant.
   pub held-in-grant :
       (start : State) → Accepted start → Empty start → (h : List Call)

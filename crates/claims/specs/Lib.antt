@@ -1,4 +1,4 @@
--- The page of claims: everything that is claimed beyond the contracts of the functions, in twelve groups, and all of them as one type.
+-- The page of claims: everything that is claimed beyond the contracts of the functions, in thirteen groups, and all of them as one type.
 pub mod Colours
 pub mod Histories
 pub mod Looks
@@ -6,6 +6,7 @@ pub mod EvenUse
 pub mod PageOrder
 pub mod Quotas
 pub mod TakingBack
+pub mod Accounts
 pub mod OnePass
 pub mod Times
 pub mod Reload

@@ -4,7 +4,6 @@ use Prim.Native.Nat.{ℕ, _%_, _<_, _≤_}
 use native.Mathlib.Omega.{arith}
 use mathlib.Core.Bool.{true, false, _&&_, true≢false}
 use mathlib.Core.List.{List, [], _∷_}
-use mathlib.Core.Logic.{⊎-elim}
 use mathlib.Core.Path.{_≡_, refl, sym, _∙_}
 use lib.Dec.{eqb}
 use lib.ListN.{length, set}
@@ -27,21 +26,15 @@ use Rattle.isolation.specs.DomainRule.{Call, Look, Fault, Release, Colou
 use Rattle.isolation.specs.EvenUse.{freedOrMoved, KeptAll, isActive, freeIn, heldIn, Even, EvenUse}
 use Rattle.isolation.proofs.AcceptedBoard.{Live, at, setOf}
 use Rattle.isolation.proofs.TestLists.{called-one, small-page}
-use Rattle.isolation.proofs.Invariant.{after-write, Inv, Good, good, invariant, known, not-reserved}
+use Rattle.isolation.proofs.Invariant.{after-write, Inv, Good, good, known}
 use Rattle.isolation.proofs.Agree.{Agree}
-use Rattle.isolation.proofs.Found.{word-page}
 use Rattle.isolation.proofs.Keeps.{call-keeps}
-use Rattle.isolation.proofs.Rule.{empty-word, start-good}
+use Rattle.isolation.proofs.Rule.{start-good, none-held}
 
--- no frame of an empty table is held
+-- at the start nothing is held
 start-even : (s : State) → Accepted s → Empty s → (d : ℕ) → d < s .board .domains → Even d s
 start-even s ok empty d below x y ax ay some =
-    let not-held : (f : ℕ) → f < s .board .frames → isHeld (s .table) d f ≡ true → ⊥ = λ f l e.
-    let w = word-page d (word (s .table) f) e in
-    ⊎-elim (λ z. omega arith) (not-reserved (invariant (start-good s ok empty)) below w) (empty-word s empty f l) in
-    let none : heldIn s d y ≡ 0 =
-    none-counts (s .board .colours) (s .board .frames) (isHeld (s .table) d) y
-    (λ f l. cases (isHeld (s .table) d f) (λ e. absurd (not-held f l e)) (λ e. e)) in
+    let none : heldIn s d y ≡ 0 = none-counts (s .board .colours) (s .board .frames) (isHeld (s .table) d) y (none-held s ok empty d below) in
     omega (arith, none)
 
 -- what a domain sees has the counts of its active colours

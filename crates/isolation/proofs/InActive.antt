@@ -3,7 +3,7 @@
 use Prim.Native.Nat.{ℕ, _<_}
 use native.Mathlib.Omega.{arith}
 use mathlib.Core.Bool.{true, false, not, _&&_}
-use mathlib.Core.List.{List, [], _∷_, _++_}
+use mathlib.Core.List.{List, [], _∷_}
 use mathlib.Core.Logic.{_⊎_, inl, inr, ⊎-elim}
 use mathlib.Core.Path.{_≡_, refl, ap, _∙_}
 use lib.Dec.{eqb}
@@ -13,16 +13,15 @@ use borrow.Author.Tests.{eqb-true, eqb-false, not-false}
 use Rattle.lists.specs.Range.{headOr, isEmpty}
 use Rattle.lists.proofs.Split.{cases, and-never}
 use Rattle.lists.proofs.Members.{Each, head-has}
-use Rattle.lists.proofs.Filter.{kept, kept-none}
+use Rattle.lists.proofs.Filter.{kept-none}
 use Rattle.lists.proofs.Found.{none-kept}
 use Rattle.refusal.specs.Reply.{Answers, Test, unless, passes}
-use Rattle.refusal.proofs.Replies.{passed-first, passed-answers}
-use Rattle.refusal.proofs.Order.{passed-earlier, passed-later}
+use Rattle.refusal.proofs.Replies.{passed-first}
 use Rattle.colours.proofs.Ranges.{count-range}
 use Rattle.board.specs.declared.Board.{Board}
-use Rattle.board.specs.Tests.{activeSet, callTests, callReply}
-use Rattle.board.proofs.Passed.{Accepted as Fine, accepted}
-use Rattle.calls.specs.Table.{State, word, wordOf, isOf, inSet, hasWord, isHeld, isStray, framesWith, mappedTo, strays}
+use Rattle.board.specs.Tests.{activeSet}
+use Rattle.board.proofs.Passed.{Accepted as Fine}
+use Rattle.calls.specs.Table.{State, wordOf, isOf, inSet, isHeld, isStray, framesWith, mappedTo, strays}
 use Rattle.calls.specs.Choices.{choices}
 use Rattle.calls.specs.Calls.{Done, settle, called, written, look, faultDone, fault, release, colours, recolour, setQuota}
 use Rattle.calls.specs.TakeBack.{takeBack}
@@ -33,12 +32,13 @@ use Rattle.calls.proofs.Inside.{none-outside}
 use Rattle.calls.proofs.TakenBack.{took-back}
 use Rattle.isolation.specs.DomainRule.{Call, Look, Fault, Release, Colours, Recolour, SetQuota, TakeBack, names, outcome, run, Accepted, Empty}
 use Rattle.isolation.specs.TakingBack.{HeldInActive}
-use Rattle.isolation.proofs.TestLists.{unless-one, small-page}
-use Rattle.isolation.proofs.Invariant.{after-write, Good, good, invariant, not-reserved}
+use Rattle.isolation.proofs.AcceptedBoard.{live}
+use Rattle.isolation.proofs.TestLists.{next-any, small-page}
+use Rattle.isolation.proofs.Invariant.{after-write, Good, good}
 use Rattle.isolation.proofs.Agree.{Agree}
-use Rattle.isolation.proofs.Found.{word-page, same-strays}
+use Rattle.isolation.proofs.Found.{mapped, same-strays}
 use Rattle.isolation.proofs.Keeps.{call-keeps}
-use Rattle.isolation.proofs.Rule.{empty-word, start-good, history-good}
+use Rattle.isolation.proofs.Rule.{start-good, none-held, history-good}
 
 -- no frame of domain d is outside its active set
 abbrev pub AllInside : ℕ → State → Type 0
@@ -57,11 +57,7 @@ module _ (d : ℕ) (s : State) (inside : AllInside d s) where
 
   under : (own : List Test) (done : Done) → (Fine (s .board) (length (s .table)) d → passes own ≡ true → AllInside d (done .next))
       → AllInside d (called s d own done .next)
-  unfolding called callReply
-  under own done f =
-      let eight = callTests (s .board) (length (s .table)) d in
-      unless-one (AllInside d) s inside (eight ++ own) done (λ p.
-      f (accepted (s .board) (length (s .table)) d (passed-answers eight (tt {0}) (passed-earlier eight own p))) (passed-later eight own p))
+  under = next-any (AllInside d) s inside d
 
   -- a word that is not the domain's, or in a frame of the set
   wrote-inside : (f w : ℕ) → length (s .table) ≡ s .board .frames → f < s .board .frames → (isOf d w && not (inSet (s .board .colours) c f)) ≡ false
@@ -82,10 +78,8 @@ module _ (d : ℕ) (s : State) (inside : AllInside d s) where
       wrote-inside (headOr 0 gs) (wordOf d p) long (k .below) (rw (k .inside) (and-never (isOf d (wordOf d p))))
 
   release-done : (p : ℕ) → length (s .table) ≡ s .board .frames → isEmpty (mappedTo s d p) ≡ false → AllInside d (written s (headOr 0 (mappedTo s d p)) 0)
-  unfolding mappedTo framesWith
   release-done p long some =
-      let m : ℕ = s .board .frames in
-      let k = head-has (λ (f : ℕ). (f < m) × (hasWord (s .table) (wordOf d p) f ≡ true)) (mappedTo s d p) (kept _ m) some in
+      let k = head-has _ (mappedTo s d p) (mapped (s .board) (live s) d p) some in
       wrote-inside (headOr 0 (mappedTo s d p)) 0 long (k .0) (rw (free-word d))
 
   recolour-inside : (e : ℕ) (lent : List ℕ) → AllInside d (recolour s d e lent .next)
@@ -143,16 +137,11 @@ module _ {b : Board} {t₀ : List ℕ} {d : ℕ} (below : d < b .domains) where
   history-inside s g inside [] = inside
   history-inside s g inside (c ∷ cs) = history-inside (outcome s c .next) (call-keeps g c .good-next) (call-inside s g inside c) cs
 
--- no frame of an empty table is held
+-- at the start nothing is held
 pub start-inside : (s : State) → Accepted s → Empty s → (d : ℕ) → d < s .board .domains → AllInside d s
 unfolding strays framesWith
 start-inside s ok empty d below =
-    none-kept _ (s .board .frames) (λ f l.
-    cases (isHeld (s .table) d f)
-    (λ e.
-    let w = word-page d (word (s .table) f) e in
-    absurd (⊎-elim (λ z. omega arith) (not-reserved (invariant (start-good s ok empty)) below w) (empty-word s empty f l)))
-    (λ e. rw e))
+    none-kept _ (s .board .frames) (λ f l. rw (none-held s ok empty d below f l))
 
 pub held-in-active : HeldInActive
 unfolding strays framesWith

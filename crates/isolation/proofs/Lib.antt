@@ -1,4 +1,4 @@
--- The arguments for the domain rule, for even use of colours, for quotas and for taking a recolouring back.
+-- The arguments for the domain rule, for even use of colours, for quotas, for taking a recolouring back and for the accounts of frames.
 pub mod Unwinding
 pub mod AcceptedBoard
 pub mod TestLists
@@ -13,7 +13,10 @@ pub mod Rule
 pub mod MoveLists
 pub mod Theorems
 pub mod EvenUse
+pub mod Holding
+pub mod Balance
 pub mod Quotas
 pub mod Room
 pub mod InActive
 pub mod TakingBack
+pub mod Accounts

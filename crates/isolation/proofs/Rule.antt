@@ -11,13 +11,14 @@ use borrow.Author.Tests.{eqb-true, eqb-false, eq-eqb}
 use Rattle.lists.proofs.Split.{cases}
 use Rattle.board.specs.declared.Board.{Board}
 use Rattle.board.specs.Tests.{badQuotas}
-use Rattle.calls.specs.Table.{State, word}
+use Rattle.calls.specs.Table.{State, word, isHeld}
 use Rattle.isolation.specs.DomainRule.{Call, Look, Colours, names, outcome, run, own, Told, told, answers}
 use Rattle.isolation.specs.DomainRule.{LookTheSame, SameColours, SameMap, Accepted, Empty, DomainRule}
 use Rattle.isolation.proofs.Unwinding.{runs, owns, heard, meet, alike, rule}
 use Rattle.isolation.proofs.AcceptedBoard.{live, facts}
-use Rattle.isolation.proofs.Invariant.{free, reserved, Good, good}
+use Rattle.isolation.proofs.Invariant.{free, reserved, Good, good, invariant, not-reserved}
 use Rattle.isolation.proofs.Agree.{Agree, agree-self, agree-back, agree-on}
+use Rattle.isolation.proofs.Found.{word-page}
 use Rattle.isolation.proofs.Keeps.{call-keeps}
 use Rattle.isolation.proofs.Sees.{call-meets}
 use Rattle.isolation.proofs.Reveals.{reveals}
@@ -45,7 +46,16 @@ start-good s ok empty =
       reserved = λ f h. (λ e. e, λ e. e);
     })
 
--- and every state of a history from it
+-- no frame of an empty table is held
+pub none-held : (s : State) → Accepted s → Empty s → (d : ℕ) → d < s .board .domains → (f : ℕ) → f < s .board .frames → isHeld (s .table) d f ≡ false
+none-held s ok empty d below f l =
+    cases (isHeld (s .table) d f)
+    (λ e.
+    let w = word-page d (word (s .table) f) e in
+    absurd (⊎-elim (λ z. omega arith) (not-reserved (invariant (start-good s ok empty)) below w) (empty-word s empty f l)))
+    (λ e. e)
+
+-- every state of a history from the start has the invariant
 pub history-good : {b : Board} {t₀ : List ℕ} (s : State) → Good b t₀ s → (h : List Call) → Good b t₀ (run s h)
 unfolding run
 history-good s g [] = g
@@ -105,7 +115,12 @@ module _ {b : Board} {t₀ : List ℕ} {d : ℕ} (below : d < b .domains) where
   pub meets-again : (l : List Call) (s r : State) → Related b t₀ d s r → Related b t₀ d (run s l) (run r (own d l))
   meets-again l s r k = simp (run-is, own-is) at (meet step told (names-it d) (Related b t₀ d) own-step other-step l s r k)
 
-  -- and they look the same to the domain
+  -- so calls of others leave what the domain sees alone
+  pub others-unseen : (s : State) → Good b t₀ s → (others : List Call) → own d others ≡ [] → Related b t₀ d (run s others) s
+  unfolding run
+  others-unseen s g others alone = rw alone at (meets-again others s s (record { left-good = g; right-good = g; agree = agree-self s }))
+
+  -- and two such states look the same to the domain
   pub looks-same : (s r : State) → Related b t₀ d s r → LookTheSame d s r
   looks-same s r k l m e =
       let on-right : Related b t₀ d r r = record { left-good = k .right-good; right-good = k .right-good; agree = agree-self r } in

@@ -19,9 +19,8 @@ use Rattle.calls.proofs.Undone.{undone}
 use Rattle.isolation.specs.DomainRule.{Call, Look, Colours, Recolour, TakeBack, names, outcome, run, own, Told, told, Accepted, Empty}
 use Rattle.isolation.specs.TakingBack.{wrote, TakingBackRestores, TakingBackUnseen, TakingBackAtOnce}
 use Rattle.isolation.proofs.Invariant.{Good, good}
-use Rattle.isolation.proofs.Agree.{agree-self}
 use Rattle.isolation.proofs.Keeps.{call-keeps}
-use Rattle.isolation.proofs.Rule.{start-good, history-good, Related, own-step, meets-again, looks-same}
+use Rattle.isolation.proofs.Rule.{start-good, history-good, Related, own-step, others-unseen, looks-same}
 use Rattle.isolation.proofs.InActive.{history-inside, start-inside}
 
 -- the count of domains is that of the start
@@ -57,14 +56,8 @@ module _ (start : State) (ok : Accepted start) (empty : Empty start) (h : List C
     abbrev last : Call
     last = TakeBack d former (wrote done lent n)
 
-    recoloured-good : Good (start .board) (start .table) (done .next)
-    recoloured-good = call-keeps found (Recolour d c lent) .good-next
-
     later : Related (start .board) (start .table) d (run (done .next) others) (done .next)
-    unfolding run
-    later =
-        rw alone at
-        (meets-again below others (done .next) (done .next) (record { left-good = recoloured-good; right-good = recoloured-good; agree = agree-self (done .next) }))
+    later = others-unseen below (done .next) (call-keeps found (Recolour d c lent) .good-next) others alone
 
     abbrev back : Outcome
     back = outcome (run (done .next) others) last

@@ -7,12 +7,12 @@ use mathlib.Core.Path.{_≡_, refl, ap}
 use lib.ListN.{length}
 use borrow.Author.Tests.{ltb-false}
 use Rattle.lists.proofs.Split.{cases}
-use Rattle.refusal.specs.Reply.{Answers, Test, unless, passes}
+use Rattle.refusal.specs.Reply.{Answers, Refuses, Test, unless, passes}
 use Rattle.refusal.proofs.Replies.{passed-first, passed-answers}
-use Rattle.refusal.proofs.Order.{unless-passed}
+use Rattle.refusal.proofs.Order.{unless-passed, passed-earlier, passed-later}
 use Rattle.board.specs.declared.Board.{Board}
-use Rattle.board.specs.Tests.{boardTests, badQuotas, quotasTest, stateTests, callerTest, callTests}
-use Rattle.board.proofs.Passed.{caller-below}
+use Rattle.board.specs.Tests.{boardTests, badQuotas, quotasTest, stateTests, callerTest, callTests, callReply}
+use Rattle.board.proofs.Passed.{Accepted as Fine, accepted, caller-below}
 use Rattle.calls.specs.Table.{State}
 use Rattle.calls.specs.Calls.{Done, Outcome, settle, called, pageTest}
 use Rattle.isolation.specs.DomainRule.{Accepted}
@@ -32,19 +32,37 @@ called-accepted s d own done ok =
 pub small-page : (p : ℕ) (own : List Test) → passes (pageTest p ∷ own) ≡ true → (p ≤ 4095) × (passes own ≡ true)
 small-page p own ok = let r = passed-first (pageTest p) own ok in (ltb-false 4095 p (r .0), r .1)
 
--- one state: what holds of it, and of the next one where the tests pass, holds of the next one under the tests
+-- what holds of every refusal, and of what is done where the tests pass, holds under the tests, and so of a call on any board and table
+module _ (K : Outcome → Type 0) (s : State) (refused : (n r : ℕ) → K (settle s (Refuses n r))) where
+  pub unless-any : (ts : List Test) (done : Done) → (passes ts ≡ true → K (settle s (Answers done))) → K (settle s (unless ts done))
+  unfolding unless passes
+  unless-any [] done f = f refl
+  unless-any (t ∷ ts) done f = cases (t .fails) (λ e. rw e (refused (t .number) (t .row))) (λ e. rw e (unless-any ts done (λ p. f (rw e p))))
+
+  pub called-any : (d : ℕ) (own : List Test) (done : Done)
+      → (Fine (s .board) (length (s .table)) d → passes own ≡ true → K (settle s (Answers done)))
+      → K (called s d own done)
+  unfolding called callReply
+  called-any d own done f =
+      let eight = callTests (s .board) (length (s .table)) d in
+      unless-any (eight ++ own) done (λ p.
+      f (accepted (s .board) (length (s .table)) d (passed-answers eight (tt {0}) (passed-earlier eight own p))) (passed-later eight own p))
+
+-- one state: what holds of it, and of the next one where the tests pass, holds of the next one after the call
 module _ (K : State → Type 0) (s : State) (k : K s) where
-  pub unless-one : (ts : List Test) (done : Done) → (passes ts ≡ true → K (done .next)) → K (settle s (unless ts done) .next)
-  unfolding unless passes settle
-  unless-one [] done f = f refl
-  unless-one (t ∷ ts) done f = cases (t .fails) (λ e. rw e k) (λ e. rw e (unless-one ts done (λ p. f (rw e p))))
+  pub next-any : (d : ℕ) (own : List Test) (done : Done)
+      → (Fine (s .board) (length (s .table)) d → passes own ≡ true → K (done .next))
+      → K (called s d own done .next)
+  unfolding settle
+  next-any d own done f = called-any (λ o. K (o .next)) s (λ n r. k) d own done f
 
   pub called-one : Accepted s → (d : ℕ) (own : List Test) (done : Done)
       → (badQuotas (s .board) ≡ false → d < s .board .domains → passes own ≡ true → K (done .next))
       → K (called s d own done .next)
+  unfolding settle
   called-one ok d own done f =
       rw (called-accepted s d own done ok)
-      (unless-one (quotasTest (s .board) ∷ callerTest (s .board) d ∷ own) done (λ p.
+      (unless-any (λ o. K (o .next)) s (λ n r. k) (quotasTest (s .board) ∷ callerTest (s .board) d ∷ own) done (λ p.
       let q = passed-first _ _ p in
       let r = passed-first _ own (q .1) in
       f (q .0) (caller-below (s .board) d (r .0)) (r .1)))

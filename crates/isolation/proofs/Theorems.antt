@@ -1,18 +1,19 @@
 -- What holds after any history from an accepted board and an empty table, beside the domain rule: document 01, "Board and frame table"
 -- and "Colours of the cache".
-use Prim.Native.Nat.{ℕ, _<_, _≤_}
+use Prim.Native.Nat.{ℕ, _<_}
 use mathlib.Core.Bool.{true}
 use mathlib.Core.List.{List}
-use mathlib.Core.Logic.{_↔_}
 use mathlib.Core.Path.{_≡_}
 use Rattle.colours.specs.Cache.{colourOf, pageOf, cacheSet}
 use Rattle.colours.proofs.Theorems.{one-set-one-colour}
 use Rattle.colours.specs.Sets.{has}
+use Rattle.board.specs.declared.Board.{Board}
 use Rattle.board.specs.Tests.{grant}
-use Rattle.calls.specs.Table.{State, word, wordOf, isOf}
+use Rattle.calls.specs.Table.{State, word, isOf}
 use Rattle.isolation.specs.DomainRule.{Call, run, Accepted, Empty, DomainRule}
+use Rattle.isolation.specs.Accounts.{OneFrameAPage, SameReserved}
 use Rattle.isolation.proofs.AcceptedBoard.{live}
-use Rattle.isolation.proofs.Invariant.{Inv, invariant, known}
+use Rattle.isolation.proofs.Invariant.{Inv, Good, good, invariant, known}
 use Rattle.isolation.proofs.Found.{word-page, own-frame}
 use Rattle.isolation.proofs.Rule.{start-good, history-good, domain-rule}
 
@@ -20,19 +21,21 @@ use Rattle.isolation.proofs.Rule.{start-good, history-good, domain-rule
 pub the-domain-rule : DomainRule
 the-domain-rule = domain-rule
 
+-- the frames are those of the start
+unique-pages : {b : Board} {t₀ : List ℕ} {s : State} → Good b t₀ s → (d : ℕ) → d < b .domains → OneFrameAPage d s
+unique-pages (good inv) d below p f g small low = inv .unique d p f g below small low
+
 module _ (start : State) (ok : Accepted start) (empty : Empty start) (h : List Call) where
   after : Inv (start .board) (start .table) (live (run start h))
   after = invariant (history-good start (start-good start ok empty) h)
 
   -- Reserved words never change, and no other word becomes one.
-  pub reserved-stays : (f : ℕ) → f < start .board .frames → (word (run start h .table) f ≡ 65535) ↔ (word (start .table) f ≡ 65535)
-  reserved-stays = after .reserved
+  pub reserved-stays : SameReserved start (run start h)
+  reserved-stays f low = let r = after .reserved f low in (r .1, r .0)
 
   -- No page of a domain has two frames.
-  pub one-frame-a-page :
-      (d p f g : ℕ) → d < start .board .domains → p ≤ 4095 → f < start .board .frames → g < start .board .frames
-      → word (run start h .table) f ≡ wordOf d p → word (run start h .table) g ≡ wordOf d p → f ≡ g
-  one-frame-a-page = after .unique
+  pub one-frame-a-page : (d : ℕ) → d < start .board .domains → OneFrameAPage d (run start h)
+  one-frame-a-page d below = unique-pages (history-good start (start-good start ok empty) h) d below
 
   -- Every held frame's colour is in its domain's grant.
   pub held-in-grant :

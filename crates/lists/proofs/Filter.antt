@@ -2,11 +2,13 @@
 use Prim.Native.Nat.{ℕ, zero, suc, _+_, _<_, _≤_}
 use native.Mathlib.Nat.{le-refl, lt-irrefl, eq-or-lt-of-le}
 use native.Mathlib.Omega.{arith}
-use mathlib.Core.Bool.{Bool, true, false}
+use mathlib.Core.Bool.{Bool, true, false, or-true, or-false}
 use mathlib.Core.List.{List, [], _∷_}
 use mathlib.Core.Logic.{⊎-elim}
-use mathlib.Core.Path.{_≡_, refl}
-use Rattle.lists.specs.Range.{from, upto, keep}
+use mathlib.Core.Path.{_≡_, refl, sym, _∙_}
+use lib.Dec.{eqb}
+use borrow.Author.Tests.{eqb-true, eq-eqb}
+use Rattle.lists.specs.Range.{from, upto, keep, any}
 use Rattle.lists.proofs.Split.{cases}
 use Rattle.lists.proofs.Members.{Each}
 
@@ -40,6 +42,23 @@ module _ (p : ℕ → Bool) where
 
   pub kept-none : (n : ℕ) → keep p (upto n) ≡ [] → (x : ℕ) → x < n → p x ≡ false
   kept-none n e x h = none-from n 0 e x (omega arith) (omega arith)
+
+  member-from : (n i x : ℕ) → i ≤ x → x < i + n → p x ≡ true → any (eqb x) (keep p (from i n)) ≡ true
+  unfolding keep from
+  member-from zero i x l h e = absurd (lt-irrefl x (omega arith))
+  member-from (suc n) i x l h e =
+      ⊎-elim
+      (λ z. let q : p i ≡ true = rw z e in rw (q, eq-eqb x i (sym z)) refl)
+      (λ m.
+      let rest = member-from n (suc i) x m (omega arith) e in
+      cases (p i) (λ q. rw (q, rest) (or-true (eqb x i))) (λ q. rw q rest))
+      (eq-or-lt-of-le l)
+
+  -- where one alone passes, any that passes is that one
+  pub kept-only : (n f x : ℕ) → keep p (upto n) ≡ f ∷ [] → x < n → p x ≡ true → x ≡ f
+  kept-only n f x e h q =
+      let r = member-from n 0 x (omega arith) (omega arith) q in
+      eqb-true x f (sym (or-false (eqb x f)) ∙ (rw e at r))
 
 module _ (p q : ℕ → Bool) where
   pub same-from : (n i : ℕ) → ((x : ℕ) → i ≤ x → x < i + n → p x ≡ q x) → keep p (from i n) ≡ keep q (from i n)
