@@ -3,9 +3,11 @@
  * board with two guests, faults pages in, recolours a guest, sees that a guest's frames lie evenly over its
  * colours and that pages to copy go upwards, boots again with a quota that leaves frames for recolouring, and
  * once more to try a smaller colour set and take that back, and admits the plan of document 01, knowing beforehand
- * how many rounds that can take. Each reply is held against what document 01 says, the order of pages, the quota,
- * the even use of colours, the rounds and the taking back against document 02, Nos. 4, 6, 7, 9 and 10, and the exit
- * status is 1 where one differs, 2 with an archive of another interface.
+ * how many rounds that can take. It keeps a log of the guests' calls, and at the end of each boot's calls counts
+ * each guest's frames from the log alone and in the table; a last boot shows the two where they differ. Each reply is
+ * held against what document 01 says, the order of pages, the quota, the even use of colours, the rounds, the taking
+ * back and the frames by the log against document 02, Nos. 4, 6, 7, 9, 10 and 14, and the exit status is 1 where one
+ * differs, 2 with an archive of another interface.
  */
 #include <stdio.h>
 
@@ -17,6 +19,7 @@
 #define ROWS (VCPUS + TASKS)
 #define MOVE_LIST_WORDS (JUZVANEC_MOVE_WORDS * FRAMES)
 #define INPUT_WORDS (7u + VCPUS * JUZVANEC_VCPU_WORDS + TASKS * JUZVANEC_TASK_WORDS)
+#define LOG_ENTRIES 32u /* no boot is followed by more calls */
 
 static int differences = 0;
 
@@ -55,7 +58,93 @@ static void show_pages(void)
     expect("index", index, 6);
 }
 
-/* Two guests with two colours each, all of them active, and the quotas at first; eight free frames. */
+/*
+ * The log: each call since the boot, the domain that made it, and what it was answered: look, whether the page is
+ * mapped; fault, whether the frame is new; release, the frame; colours, the set; a quota call, the quota; recolour and
+ * take back, the moves.
+ */
+enum call { CALL_LOOK, CALL_FAULT, CALL_RELEASE, CALL_COLOURS, CALL_RECOLOUR, CALL_SET_QUOTA, CALL_TAKE_BACK };
+struct entry {
+    uint32_t domain;
+    enum call kind;
+    uint32_t refusal; /* its number, or JUZVANEC_ANSWERED */
+    uint32_t answer;
+};
+static struct entry entries[LOG_ENTRIES];
+static uint32_t logged = 0;
+
+static void log_call(uint32_t domain, enum call kind, uint32_t refusal, uint32_t answer)
+{
+    const struct entry entry = {domain, kind, refusal, answer};
+
+    expect("calls that the log has no room for", logged < LOG_ENTRIES ? 0 : 1, 0);
+    if (logged < LOG_ENTRIES)
+        entries[logged++] = entry;
+}
+
+/* What a log says of a domain: the faults answered new and the accepted releases. Their difference is its frames. */
+struct account {
+    uint32_t given;
+    uint32_t released;
+};
+
+/*
+ * Goes by the entries alone. Passed over are other domains' calls, refused calls, faults answered old, and what is no
+ * fault or release, with its moves: the domain holds as many frames after each of these as before.
+ */
+static struct account count_log(const struct entry *list, uint32_t length, uint32_t domain)
+{
+    struct account found = {0, 0};
+    uint32_t i;
+
+    for (i = 0; i < length; i++) {
+        if (list[i].domain != domain || list[i].refusal != JUZVANEC_ANSWERED)
+            continue;
+        if (list[i].kind == CALL_FAULT && list[i].answer == 1)
+            found.given++;
+        if (list[i].kind == CALL_RELEASE)
+            found.released++;
+    }
+    return found;
+}
+
+/* The frames with one of the domain's page words. */
+static uint32_t count_table(const uint16_t *table, uint32_t domain)
+{
+    uint32_t frame, held = 0;
+
+    for (frame = 0; frame < FRAMES; frame++)
+        if (table[frame] >= JUZVANEC_PAGE_WORD(domain, 0) &&
+            table[frame] <= JUZVANEC_PAGE_WORD(domain, JUZVANEC_LAST_PAGE))
+            held++;
+    return held;
+}
+
+/* The domain's frames by the first entries of the log, as many as `length` says, beside those in the table. */
+static void show_account(uint32_t length, const uint16_t *table, uint32_t domain, uint32_t expected_by_log,
+                         uint32_t expected_in_table)
+{
+    const struct account found = count_log(entries, length, domain);
+    const long frames = (long)found.given - (long)found.released;
+    const uint32_t held = count_table(table, domain);
+
+    printf("domain %lu: log says %lu new, %lu released, so %ld %s; the table has %lu\n", (unsigned long)domain,
+           (unsigned long)found.given, (unsigned long)found.released, frames, frames == 1 ? "frame" : "frames",
+           (unsigned long)held);
+    if (frames != (long)held)
+        printf("differs: the table was written by something else, or the log has a gap\n");
+    expect("frames by the log", (uint32_t)frames, expected_by_log);
+    expect("frames in the table", held, expected_in_table);
+}
+
+/* Each domain has as many frames by the whole log as in the table: so many. */
+static void show_accounts(const uint16_t *table, uint32_t expected_0, uint32_t expected_1)
+{
+    show_account(logged, table, 0, expected_0, expected_0);
+    show_account(logged, table, 1, expected_1, expected_1);
+}
+
+/* Two guests with two colours each, all of them active, and the quotas at first; eight free frames, an empty log. */
 static void boot(struct juzvanec_board *board, uint16_t *table)
 {
     static const struct juzvanec_board booted = {
@@ -65,6 +154,7 @@ static void boot(struct juzvanec_board *board, uint16_t *table)
     *board = booted;
     for (frame = 0; frame < FRAMES; frame++)
         table[frame] = JUZVANEC_FREE;
+    logged = 0;
 }
 
 /* A fault; the last number is 1 where the page gets a new frame, and 0 where it has one or is refused. */
@@ -74,6 +164,7 @@ static void show_any_fault(const struct juzvanec_board *board, uint16_t *table, 
     uint32_t is_new, frame, row;
     uint32_t number = juzvanec_fault(board, table, FRAMES, domain, page, &is_new, &frame, &row);
 
+    log_call(domain, CALL_FAULT, number, is_new);
     printf("domain %lu faults page %lu: ", (unsigned long)domain, (unsigned long)page);
     if (number == JUZVANEC_ANSWERED)
         printf("%s frame %lu\n", is_new ? "new" : "old", (unsigned long)frame);
@@ -95,9 +186,10 @@ static void show_look(const struct juzvanec_board *board, const uint16_t *table,
                       uint32_t page, uint32_t expected_mapped, uint32_t expected_frame)
 {
     uint32_t mapped, frame, row;
+    uint32_t number = juzvanec_look(board, table, FRAMES, domain, page, &mapped, &frame, &row);
 
-    expect("refusal", juzvanec_look(board, table, FRAMES, domain, page, &mapped, &frame, &row),
-           JUZVANEC_ANSWERED);
+    log_call(domain, CALL_LOOK, number, mapped);
+    expect("refusal", number, JUZVANEC_ANSWERED);
     printf("domain %lu looks up page %lu: ", (unsigned long)domain, (unsigned long)page);
     if (mapped)
         printf("frame %lu\n", (unsigned long)frame);
@@ -124,10 +216,11 @@ static void show_moves(struct juzvanec_board *board, uint16_t *table, uint32_t d
                        const uint16_t *expected, uint32_t expected_count, uint16_t moves[MOVE_LIST_WORDS])
 {
     uint32_t count, set, quota, row, i;
+    uint32_t number =
+        juzvanec_recolour(board, table, FRAMES, domain, new_set, moves, MOVE_LIST_WORDS, &count, &row);
 
-    expect("refusal",
-           juzvanec_recolour(board, table, FRAMES, domain, new_set, moves, MOVE_LIST_WORDS, &count, &row),
-           JUZVANEC_ANSWERED);
+    log_call(domain, CALL_RECOLOUR, number, count);
+    expect("refusal", number, JUZVANEC_ANSWERED);
     printf("domain %lu recolours to 0x%lx: moves %lu\n", (unsigned long)domain, (unsigned long)new_set,
            (unsigned long)count);
     expect("moves", count, expected_count);
@@ -139,7 +232,9 @@ static void show_moves(struct juzvanec_board *board, uint16_t *table, uint32_t d
     }
     for (i = 0; i < JUZVANEC_MOVE_WORDS * expected_count; i++)
         expect("word of the moves", moves[i], expected[i]);
-    expect("refusal", juzvanec_colours(board, table, FRAMES, domain, &set, &quota, &row), JUZVANEC_ANSWERED);
+    number = juzvanec_colours(board, table, FRAMES, domain, &set, &quota, &row);
+    log_call(domain, CALL_COLOURS, number, set);
+    expect("refusal", number, JUZVANEC_ANSWERED);
     expect("active set", set, new_set);
     expect("board's set", board->active[domain], new_set);
     expect("quota", quota, board->quotas[domain]);
@@ -154,17 +249,21 @@ static void show_recolour(struct juzvanec_board *board, uint16_t *table, uint32_
     show_moves(board, table, domain, new_set, expected, expected_count, moves);
 }
 
+/* A release, and the same once more, which is refused. */
 static void show_release(const struct juzvanec_board *board, uint16_t *table, uint32_t domain, uint32_t page,
                          uint32_t expected_frame)
 {
     uint32_t frame, row;
+    uint32_t number = juzvanec_release(board, table, FRAMES, domain, page, &frame, &row);
 
-    expect("refusal", juzvanec_release(board, table, FRAMES, domain, page, &frame, &row), JUZVANEC_ANSWERED);
+    log_call(domain, CALL_RELEASE, number, frame);
+    expect("refusal", number, JUZVANEC_ANSWERED);
     printf("domain %lu releases page %lu: frame %lu\n", (unsigned long)domain, (unsigned long)page,
            (unsigned long)frame);
     expect("frame", frame, expected_frame);
-    expect("refusal", juzvanec_release(board, table, FRAMES, domain, page, &frame, &row),
-           JUZVANEC_REFUSED_UNMAPPED);
+    number = juzvanec_release(board, table, FRAMES, domain, page, &frame, &row);
+    log_call(domain, CALL_RELEASE, number, frame);
+    expect("refusal", number, JUZVANEC_REFUSED_UNMAPPED);
 }
 
 /*
@@ -200,6 +299,7 @@ static void show_set_quota(struct juzvanec_board *board, const uint16_t *table, 
     uint32_t before = board->quotas[1], answer, row;
     uint32_t number = juzvanec_set_quota(board, table, FRAMES, 1, quota, &answer, &row);
 
+    log_call(1, CALL_SET_QUOTA, number, answer);
     printf("domain 1 asks for a quota of %lu: ", (unsigned long)quota);
     if (number == JUZVANEC_ANSWERED)
         printf("quota %lu\n", (unsigned long)answer);
@@ -215,8 +315,10 @@ static uint32_t show_colours(const struct juzvanec_board *board, const uint16_t 
                              uint32_t expected_quota)
 {
     uint32_t set, quota, row;
+    uint32_t number = juzvanec_colours(board, table, FRAMES, 1, &set, &quota, &row);
 
-    expect("refusal", juzvanec_colours(board, table, FRAMES, 1, &set, &quota, &row), JUZVANEC_ANSWERED);
+    log_call(1, CALL_COLOURS, number, set);
+    expect("refusal", number, JUZVANEC_ANSWERED);
     printf("domain 1 has colours 0x%lx and quota %lu\n", (unsigned long)set, (unsigned long)quota);
     expect("active set", set, expected_set);
     expect("quota", quota, expected_quota);
@@ -246,6 +348,7 @@ static void show_quota(void)
     show_recolour(&board, table, 1, 0x4, move, 1);
     show_table(table, after);
     show_colours(&board, table, 0x4, 2);
+    show_accounts(table, 0, 2); /* pages 0 and 1 of domain 1, one of them old later and moved */
 }
 
 /* Domain 1 takes so many moves back to a set, and the loader copies the pages back: from the new to the old frame. */
@@ -256,6 +359,7 @@ static void show_take_back(struct juzvanec_board *board, uint16_t *table, uint32
     uint32_t number = juzvanec_take_back(board, table, FRAMES, 1, set, moves, JUZVANEC_MOVE_WORDS * move_count,
                                          &count, &row);
 
+    log_call(1, CALL_TAKE_BACK, number, count);
     printf("domain 1 takes %lu moves back to 0x%lx: ", (unsigned long)move_count, (unsigned long)set);
     if (number == JUZVANEC_ANSWERED)
         printf("moves %lu\n", (unsigned long)count);
@@ -307,6 +411,31 @@ static void show_taking_back(void)
     show_take_back(&board, table, former, moves, 2, JUZVANEC_REFUSED_TRIPLES);
     show_take_back(&board, table, 0x8, moves, 0, JUZVANEC_REFUSED_LEFT_OUTSIDE);
     show_take_back(&board, table, former, moves, 0, JUZVANEC_ANSWERED);
+    show_accounts(table, 1, 2); /* page 9; pages 7, 5 and 1 less 5, whatever went there and back */
+}
+
+/*
+ * What service staff see where the two differ. Domain 1 has had three pages new and released one. A page word that
+ * something else wrote is a frame more in the table, and a log without its last entry, the fault of page 2, says a
+ * frame less.
+ */
+static void show_difference(void)
+{
+    struct juzvanec_board board;
+    uint16_t table[FRAMES];
+
+    boot(&board, table);
+    show_fault(&board, table, 1, 0, JUZVANEC_ANSWERED, 2);
+    show_fault(&board, table, 1, 1, JUZVANEC_ANSWERED, 3);
+    show_release(&board, table, 1, 0, 2);
+    show_fault(&board, table, 1, 2, JUZVANEC_ANSWERED, 2);
+    show_accounts(table, 0, 2);
+    table[7] = JUZVANEC_PAGE_WORD(1, 9);
+    printf("something else writes %u to frame 7\n", (unsigned)table[7]);
+    show_account(logged, table, 1, 2, 3);
+    table[7] = JUZVANEC_FREE;
+    printf("frame 7 is free again, and the log loses its last entry\n");
+    show_account(logged - 1u, table, 1, 1, 2);
 }
 
 static void show_frames(void)
@@ -333,6 +462,7 @@ static void show_frames(void)
     show_fault(&board, table, 0, 2, JUZVANEC_ANSWERED, 0);
     show_even_use(&board, table);
     show_page_order(&board, table);
+    show_accounts(table, 2, 2); /* pages 9, 1 and 2 less 9; pages 0, 1, 2 and 3 less 0 and 1 */
 }
 
 /* The plan of the program `admit` in document 01: one guest, a VCPU and two tasks. */
@@ -480,6 +610,7 @@ int main(void)
     show_frames();
     show_quota();
     show_taking_back();
+    show_difference();
     fill_costs();
     show_plan();
     show_admit();
