@@ -18,9 +18,11 @@
  *
  * Pointers. Each must be valid for what is read or written through it, aligned for its type and not null.
  * Lists that are lent in one call, the board and the numbers that come back must not overlap each other. A
- * list of length 0 may be given by any aligned pointer that is not null. Nothing else is asked of a
- * caller: every number and every content of a list is answered or refused. No function keeps anything
- * between calls, neither a pointer nor memory of its own, or calls anything but memcpy and memset.
+ * list of length 0 may be given by any aligned pointer that is not null. While a call runs, nothing else may
+ * write what it was lent or look at what it writes: calls on one table are made one after another. Nothing
+ * else is asked of a caller: every number and every content of a list is answered or refused. No function
+ * keeps anything between calls, neither a pointer nor memory of its own, or calls anything but memcpy and
+ * memset.
  */
 #ifndef JUZVANEC_H
 #define JUZVANEC_H

@@ -46,10 +46,14 @@ unfolding moveAll
 moves-off t [] f o = refl
 moves-off t (m ∷ ms) f o = moves-off (move t m) ms f (o .1) ∙ move-off t m f (o .0)
 
+-- the table stays as long as it was
+pub move-length : (t : List ℕ) (m : Move) → length (move t m) ≡ length t
+move-length t m = length-set (set t (m .source) 0) (m .target) (word t (m .source)) ∙ length-set t (m .source) 0
+
 moves-length : (t : List ℕ) (ms : List Move) → length (moveAll t ms) ≡ length t
 unfolding moveAll
 moves-length t [] = refl
-moves-length t (m ∷ ms) = moves-length (move t m) ms ∙ length-set (set t (m .source) 0) (m .target) _ ∙ length-set t (m .source) 0
+moves-length t (m ∷ ms) = moves-length (move t m) ms ∙ move-length t m
 
 -- A move between two frames of the table
 abbrev Within : ℕ → Move → Type 0
@@ -66,8 +70,7 @@ carried t (m ∷ ms) apart fit =
     let v : ℕ = m .source in
     let g : ℕ = m .target in
     let tv : List ℕ = set t v 0 in
-    let long : length (move t m) ≡ length t = length-set tv g (word t v) ∙ length-set t v 0 in
-    let rest = carried (move t m) ms (apart .1) (rw long (fit .1)) in (
+    let rest = carried (move t m) ms (apart .1) (rw (move-length t m) (fit .1)) in (
       (
         moves-off (move t m) ms g (each-map (λ a h. (h .in-out, h .targets)) ms (apart .0))
             ∙ getD-set-same tv g (word t v) 0 (rw (length-set t v 0) (fit .0 .1)),

@@ -111,7 +111,7 @@ call-balanced d s (TakeBack e c list) =
     let long = fine .bounds .long in
     moved d e s c (backward (moveList list)) long (back-vacant d e s c (moveList list) long (fits .each)) (once-apart (moveList list) (fits .apart)))
 
--- A reply new is a fault's, and of a release every answer is freed
+-- A reply new is a fault's, a reply freed a release's, and of a release every answer is freed
 abbrev Tied : ℕ → Call → Outcome → Type 0
 Tied d c o =
     ((isFault d c && isNew (o .reply)) ≡ (isNew (o .reply) && eqb (names c) d))

@@ -25,7 +25,7 @@ use Rattle.calls.proofs.Choice.{First, first}
 use Rattle.isolation.specs.DomainRule.{Call, Look, Fault, Release, Colours, Recolour, SetQuota, TakeBack, names, outcome, run, Accepted, Empty}
 use Rattle.isolation.specs.EvenUse.{freedOrMoved, KeptAll, isActive, freeIn, heldIn, Even, EvenUse}
 use Rattle.isolation.proofs.AcceptedBoard.{Live, at, setOf}
-use Rattle.isolation.proofs.TestLists.{called-one, small-page}
+use Rattle.isolation.proofs.TestLists.{unless-any, called-one, small-page}
 use Rattle.isolation.proofs.Invariant.{after-write, Inv, Good, good, known}
 use Rattle.isolation.proofs.Agree.{Agree}
 use Rattle.isolation.proofs.Keeps.{call-keeps}
@@ -79,10 +79,10 @@ wrote-even s d g w long r own even x y ax ay some =
 -- a release, a recolouring or a taking back was done, or its reply is a refusal
 refused-even : (s : State) (d : ℕ) (ts : List Test) (done : Done) → freedOrMoved (Answers (done .answer)) ≡ true
     → freedOrMoved (settle s (unless ts done) .reply) ≡ false → Even d s → Even d (settle s (unless ts done) .next)
-unfolding settle unless
-refused-even s d [] done gives undone even = absurd (true≢false (sym gives ∙ undone))
-refused-even s d (t ∷ ts) done gives undone even =
-    cases (t .fails) (λ e. rw e even) (λ e. rw e (refused-even s d ts done gives (rw e at undone) even))
+unfolding settle
+refused-even s d ts done gives undone even =
+    unless-any (λ o. freedOrMoved (o .reply) ≡ false → Even d (o .next)) s (λ n r no. even) ts done
+    (λ p no. absurd (true≢false (sym gives ∙ no))) undone
 
 -- the domain's own calls
 module _ {b : Board} {t₀ : List ℕ} {x : Live} (inv : Inv b t₀ x) (d : ℕ) (even : Even d (at b x)) where

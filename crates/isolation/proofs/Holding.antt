@@ -18,7 +18,7 @@ use Rattle.calls.specs.Calls.{Move, move, moveAll}
 use Rattle.calls.proofs.Words.{free-word}
 use Rattle.calls.proofs.Moves.{Each, Sorted}
 use Rattle.calls.proofs.AnyOrder.{Apart}
-use Rattle.calls.proofs.Undone.{move-off}
+use Rattle.calls.proofs.Undone.{move-length, move-off}
 
 -- one where a test passes
 abbrev pub one : Bool → ℕ
@@ -81,18 +81,17 @@ module _ (d m : ℕ) where
   unfolding moveAll
   moves-held [] t long vacant apart = refl
   moves-held (s ∷ ms) t long vacant apart =
-      let longer : length (move t s) ≡ length t = length-set (set t (s .source) 0) (s .target) _ ∙ length-set t (s .source) 0 in
-      moves-held ms (move t s) (longer ∙ long) (still ms longer (vacant .1) (apart .0)) (apart .1) ∙ move-held t s long (vacant .0)
+      moves-held ms (move t s) (move-length t s ∙ long) (still ms (vacant .1) (apart .0)) (apart .1) ∙ move-held t s long (vacant .0)
     where
-      still : (l : List Move) → length (move t s) ≡ length t → Each (Vacant t) l → Each (Apart s) l → Each (Vacant (move t s)) l
-      still [] long vacant apart = tt
-      still (a ∷ l) long vacant apart =
+      still : (l : List Move) → Each (Vacant t) l → Each (Apart s) l → Each (Vacant (move t s)) l
+      still [] vacant apart = tt
+      still (a ∷ l) vacant apart =
           let k = vacant .0 in
           let o = apart .0 in (
             record {
-              from-frame = rw long (k .from-frame);
-              to-frame = rw long (k .to-frame);
+              from-frame = rw (move-length t s) (k .from-frame);
+              to-frame = rw (move-length t s) (k .to-frame);
               free = move-off t s (a .target) (λ e. o .out-in (sym e), λ e. o .targets (sym e)) ∙ k .free;
             },
-            still l long (vacant .1) (apart .1),
+            still l (vacant .1) (apart .1),
           )

@@ -33,7 +33,7 @@ use Rattle.calls.proofs.TakenBack.{took-back}
 use Rattle.isolation.specs.DomainRule.{Call, Look, Fault, Release, Colours, Recolour, SetQuota, TakeBack, names, outcome, run, Accepted, Empty}
 use Rattle.isolation.specs.TakingBack.{HeldInActive}
 use Rattle.isolation.proofs.AcceptedBoard.{live}
-use Rattle.isolation.proofs.TestLists.{next-any, small-page}
+use Rattle.isolation.proofs.TestLists.{unless-any, next-any, small-page}
 use Rattle.isolation.proofs.Invariant.{after-write, Good, good}
 use Rattle.isolation.proofs.Agree.{Agree}
 use Rattle.isolation.proofs.Found.{mapped, same-strays}
@@ -46,9 +46,8 @@ AllInside d s = strays s d (activeSet (s .board) d) ≡ []
 
 -- a call answers, or changes nothing
 done-or-same : (s : State) (ts : List Test) (done : Done) → (settle s (unless ts done) .reply ≡ Answers (done .answer)) ⊎ (settle s (unless ts done) .next ≡ s)
-unfolding unless settle
-done-or-same s [] done = inl refl
-done-or-same s (t ∷ ts) done = cases (t .fails) (λ e. inr (rw e)) (λ e. rw e (done-or-same s ts done))
+unfolding settle
+done-or-same s ts done = unless-any (λ o. (o .reply ≡ Answers (done .answer)) ⊎ (o .next ≡ s)) s (λ n r. inr refl) ts done (λ p. inl refl)
 
 -- The domain's own calls, on any board and table
 module _ (d : ℕ) (s : State) (inside : AllInside d s) where

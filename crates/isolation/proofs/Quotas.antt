@@ -8,8 +8,8 @@ use mathlib.Core.Path.{_≡_, refl, sym, ap}
 use lib.Dec.{eqb}
 use lib.ListN.{length}
 use lib.Seq.{getD-set-same, getD-set-other}
-use borrow.Author.Tests.{eqb-true, eqb-false, ne-eqb, leb-false, ltb-false}
-use Rattle.lists.specs.Range.{isEmpty}
+use borrow.Author.Tests.{eqb-true, eqb-false, ne-eqb, ltb-false}
+use Rattle.lists.specs.Range.{headOr}
 use Rattle.lists.proofs.Split.{cases, and-both, neither}
 use Rattle.lists.proofs.Found.{none-kept}
 use Rattle.refusal.specs.Reply.{Answers, Test}
@@ -18,13 +18,14 @@ use Rattle.board.specs.Tests.{activeSet, quota, noQuota}
 use Rattle.board.proofs.Passed.{Accepted as Fine, quotas-split, quota-placed}
 use Rattle.calls.specs.Table.{State, wordOf, isHeld, framesWith, framesHeld, mappedTo}
 use Rattle.calls.specs.Choices.{choices}
-use Rattle.calls.specs.Calls.{Done, settle, called, faultDone, atQuota, quotaTest, withQuota}
+use Rattle.calls.specs.Calls.{New, Done, settle, called, faultDone, quotaTest, withQuota}
 use Rattle.calls.specs.Calls.{look, fault, release, colours, recolour, setQuota}
 use Rattle.calls.specs.TakeBack.{takeBack}
+use Rattle.calls.proofs.NewFrame.{new-frame}
 use Rattle.isolation.specs.DomainRule.{Call, Look, Fault, Release, Colours, Recolour, SetQuota, TakeBack, outcome, run, own, Accepted, Empty}
 use Rattle.isolation.specs.Quotas.{WithinQuota, NeverAboveQuota, OthersQuotaUnseen}
 use Rattle.isolation.specs.Kinds.{isNew, isFault}
-use Rattle.isolation.proofs.TestLists.{called-any, next-any, small-page}
+use Rattle.isolation.proofs.TestLists.{called-any, next-any}
 use Rattle.isolation.proofs.Rule.{none-held, domain-rule}
 use Rattle.isolation.proofs.Balance.{no-more-held}
 
@@ -41,16 +42,18 @@ module _ (d : ℕ) (s : State) where
   fault-quota w [] gs = refl
 
   -- a fault that is answered new is below it
-  below-quota : (w : ℕ) (ms gs : List ℕ) → (isEmpty ms && atQuota s d) ≡ false → isNew (Answers (faultDone s w ms gs .answer)) ≡ true
-      → framesHeld s d < quota (s .board) d
-  below-quota w (f ∷ ms) gs below new = absurd (false≢true new)
-  below-quota w [] gs below new = leb-false (quota (s .board) d) (framesHeld s d) below
+  new-is : (w : ℕ) (ms gs : List ℕ) → isNew (Answers (faultDone s w ms gs .answer)) ≡ true → Answers (faultDone s w ms gs .answer) ≡ Answers (New (headOr 0 gs))
+  new-is w (f ∷ ms) gs new = absurd (false≢true new)
+  new-is w [] gs new = refl
 
   new-below : (p : ℕ) → isNew (fault s d p .reply) ≡ true → framesHeld s d < quota (s .board) d
   unfolding fault settle
-  new-below p =
-      called-any (λ o. isNew (o .reply) ≡ true → framesHeld s d < quota (s .board) d) s (λ n r new. absurd (false≢true new)) d _ _
-      (λ fine ok. below-quota (wordOf d p) (mappedTo s d p) (choices s d _) (passed-first _ _ (small-page p _ ok .1) .0))
+  new-below p new =
+      let gs : List ℕ = choices s d (activeSet (s .board) d) in
+      let answered =
+      called-any (λ o. isNew (o .reply) ≡ true → o .reply ≡ Answers (New (headOr 0 gs))) s (λ n r no. absurd (false≢true no)) d _ _
+      (λ fine ok. new-is (wordOf d p) (mappedTo s d p) gs) in
+      new-frame s d p (headOr 0 gs) (answered new) .1
 
 -- Each call, whosever it is, on any board and table
 module _ (d : ℕ) (s : State) (within : WithinQuota d s) where

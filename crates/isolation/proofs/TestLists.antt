@@ -1,5 +1,5 @@
--- Calls under their tests: in an accepted state a call goes by 26, its caller's test and its own. What holds of a refusal, and of the outcome
--- where all tests pass, holds of the call, for one state and for two.
+-- Calls under their tests. What holds of a refusal, and of the outcome where all tests pass, holds of the call, on any board and table. In an accepted state a
+-- call goes by 26, its caller's test and its own, and the same holds for two states.
 use Prim.Native.Nat.{ℕ, _<_, _≤_}
 use mathlib.Core.Bool.{true, false}
 use mathlib.Core.List.{List, [], _∷_, _++_, append-assoc, append-nil}
