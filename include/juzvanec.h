@@ -60,6 +60,15 @@ extern "C" {
 #define JUZVANEC_PAGE_BYTES 4096u         /* a page or a frame */
 
 /*
+ * The bytes of stack that a call takes at most, with the arguments that its caller stores and with memcpy and
+ * memset. Each is the most that was measured on the largest boards and plans, rounded up to a multiple of 256.
+ */
+#define JUZVANEC_STACK_RECOLOUR 8960u  /* juzvanec_recolour */
+#define JUZVANEC_STACK_TAKE_BACK 4608u /* juzvanec_take_back */
+#define JUZVANEC_STACK_ADMIT 4864u     /* juzvanec_admit */
+#define JUZVANEC_STACK_OTHERS 1536u    /* any other function */
+
+/*
  * A board: 27 words of 32 bits. A grant or an active set has bit c for colour c. A domain that holds as many
  * frames as its quota, or more, gets no new one by a fault; recolouring goes on whatever the quota. Whoever
  * fills a board in gives each domain JUZVANEC_FIRST_QUOTA, which holds nobody back, and later lowers or raises
@@ -222,8 +231,8 @@ uint32_t juzvanec_set_quota(struct juzvanec_board *board, const uint16_t *table,
  * old frames become free, and the set is the domain's active one in the board. *count is the number of moves.
  * The move list receives JUZVANEC_MOVE_WORDS words for each, by ascending page, equal pages by ascending old
  * frame, and its rest does not change. The pages' contents are the caller's to copy, in any order: no frame is
- * both left and taken. A quota stops no recolouring, since the frames held stay as many. An array of 8,192 bytes
- * on the stack has a place in the list for each page, so that the call takes at most 8,960 bytes of stack.
+ * both left and taken. A quota stops no recolouring, since the frames held stay as many. The call takes at
+ * most JUZVANEC_STACK_RECOLOUR bytes of stack, of which 8,192 are an array with a place in the list for each page.
  * Refusals 2 to 7, 26, 8, 9, 12, 13.
  */
 uint32_t juzvanec_recolour(struct juzvanec_board *board, uint16_t *table, size_t table_words,
@@ -243,13 +252,13 @@ uint32_t juzvanec_recolour(struct juzvanec_board *board, uint16_t *table, size_t
  * domain has the frame that it had before. Where the domain has released or recoloured since, the list need not fit
  * any more. Quotas play no part.
  *
- * The call knows the list and the set that it is given, and no recolouring: it takes every list and set that fit. A list
- * that lacks some of the triples leaves their pages where they are; compare *count with the recolouring's.
+ * The call knows the list and the set that it is given, and no recolouring: it takes every list and set that fit.
+ * A list that lacks some of the triples leaves their pages where they are; compare *count with the recolouring's.
  *
  * 31: the length is no multiple of three, or the list names a page above 4,095, a frame at or above F or a frame
  * twice; or a new frame has not the domain's word for its page, or an old frame is not free or not of the set. 32:
  * after the moves some frame of the domain, in the list or not, would lie outside the set.
- * The call takes at most 4,864 bytes of stack. Refusals 2 to 7, 26, 8, 9, 31, 32.
+ * The call takes at most JUZVANEC_STACK_TAKE_BACK bytes of stack. Refusals 2 to 7, 26, 8, 9, 31, 32.
  */
 uint32_t juzvanec_take_back(struct juzvanec_board *board, uint16_t *table, size_t table_words,
                             uint32_t domain, uint32_t set, const uint16_t *moves, size_t move_words,
@@ -287,7 +296,8 @@ uint32_t juzvanec_admit_plan(const struct juzvanec_board *board, uint32_t reload
  * The program `admit`: reads the plan in the input, as little-endian words of 32 bits, and writes what the
  * program prints to the text, which must have all its bytes. *length is the text's length in bytes, and
  * the bytes past it do not change; *words is how many words the plan took. Both are given and the text is
- * written on a refusal too; *words is 0 where the refusal is 1. Refusals 1 to 6, 15 to 22.
+ * written on a refusal too; *words is 0 where the refusal is 1. The call takes at most JUZVANEC_STACK_ADMIT bytes of
+ * stack. Refusals 1 to 6, 15 to 22.
  */
 uint32_t juzvanec_admit(const uint8_t *input, size_t input_bytes, uint8_t text[JUZVANEC_TEXT_BYTES],
                         uint32_t *length, uint32_t *words, uint32_t *row);

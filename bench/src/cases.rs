@@ -6,7 +6,7 @@ use std::hint::black_box;
 use baseline::{Board, Faulted, Looked, Refusal};
 
 use crate::inputs::{self, Plan};
-use crate::ours::{self, Reply};
+use crate::ours::{self, Raw};
 
 /// A call on either side.
 pub trait Case {
@@ -36,10 +36,15 @@ pub trait Case {
 }
 
 /// The baseline's reply as the interface would give it.
-fn reply<A>(reply: Result<A, Refusal>, values: impl Fn(A) -> [u32; 2]) -> Reply {
-    match reply {
+fn reply<A>(reply: Result<A, Refusal>, values: impl Fn(A) -> [u32; 2]) -> Raw {
+    let (number, row, values) = match reply {
         Ok(answer) => (0, 0, values(answer)),
         Err(refusal) => (refusal.number, refusal.row, [0; 2]),
+    };
+    Raw {
+        number,
+        row,
+        values,
     }
 }
 
@@ -180,7 +185,8 @@ impl Case for Fault {
     fn ours(&mut self) {
         let page = black_box(self.0.page);
         let Frames { lent, table, .. } = &mut self.0;
-        let (_, _, [_, frame]) = black_box(ours::fault(black_box(lent), black_box(table), 1, page));
+        let reply = black_box(ours::fault(black_box(lent), black_box(table), 1, page));
+        let [_, frame] = reply.values;
         self.0.table[frame as usize] = 0;
     }
 
@@ -199,7 +205,7 @@ impl Case for Fault {
         let base = reply(baseline::fault(&self.0.board, &mut one, 1, page), faulted);
         let ours = ours::fault(&self.0.lent, &mut two, 1, page);
         // the cases are all of new frames, which `ours` and `base` rely on
-        ours == base && one == two && ours.2[0] == 1
+        ours == base && one == two && ours.values[0] == 1
     }
 
     fn symbols(&self) -> [&'static str; 2] {
@@ -255,7 +261,7 @@ impl Case for IdleFault {
         let ours = ours::fault(lent, &mut two, 1, *page);
         let untouched = one == *table && two == *table;
         // an answer is an old frame
-        ours == base && untouched && ours.0 == self.number && ours.2[0] == 0
+        ours == base && untouched && ours.number == self.number && ours.values[0] == 0
     }
 
     fn symbols(&self) -> [&'static str; 2] {
@@ -285,7 +291,7 @@ impl Case for Colours {
             [set, quota]
         });
         let ours = ours::colours(lent, table, 1);
-        ours == base && ours.0 == 0
+        ours == base && ours.number == 0
     }
 
     fn symbols(&self) -> [&'static str; 2] {
@@ -297,7 +303,7 @@ impl Case for Colours {
 pub struct SetQuota(pub Frames, pub u32);
 
 impl SetQuota {
-    fn reply_ours(&mut self) -> Reply {
+    fn reply_ours(&mut self) -> Raw {
         let SetQuota(Frames { lent, table, .. }, quota) = self;
         ours::set_quota(black_box(lent), black_box(table), 1, black_box(*quota))
     }
@@ -321,7 +327,7 @@ impl Case for SetQuota {
         let ours = self.reply_ours();
         let base = reply(self.reply_base(), |quota| [quota, 0]);
         let boards = self.0.lent == ours::lent(&self.0.board);
-        ours == base && boards && ours.0 == 0 && self.0.lent.quotas[1] == self.1
+        ours == base && boards && ours.number == 0 && self.0.lent.quotas[1] == self.1
     }
 
     fn symbols(&self) -> [&'static str; 2] {
@@ -403,7 +409,7 @@ impl Recolour {
         self.now.table.copy_from_slice(&self.start.table);
     }
 
-    fn reply_ours(&mut self) -> Reply {
+    fn reply_ours(&mut self) -> Raw {
         self.restore();
         let Frames { lent, table, .. } = &mut self.now;
         let set = black_box(self.set);
@@ -438,7 +444,7 @@ impl Case for Recolour {
         let two = reply(self.reply_base(), |count| [count as u32, 0]);
         let Frames { board, .. } = &self.now;
         let lists = table == self.now.table && moves == self.moves;
-        let counted = one.0 == 0 && one.2[0] == self.expected;
+        let counted = one.number == 0 && one.values[0] == self.expected;
         one == two && lists && lent == ours::lent(board) && counted
     }
 
@@ -500,11 +506,11 @@ impl TakeBack {
         self.now.table.copy_from_slice(&self.after.table);
     }
 
-    fn reply_ours(&mut self) -> Reply {
+    fn reply_ours(&mut self) -> Raw {
         self.restore();
         let Frames { lent, table, .. } = &mut self.now;
         let set = black_box(self.before.board.active[0]);
-        ours::take_back(lent, table, 0, set, black_box(&self.moves))
+        ours::take_back(lent, table, 0, set, black_box(&mut self.moves))
     }
 
     fn reply_base(&mut self) -> Result<usize, Refusal> {
@@ -531,7 +537,7 @@ impl Case for TakeBack {
         let two = reply(self.reply_base(), |count| [count as u32, 0]);
         let base =
             self.now.table == self.before.table && ours::lent(&self.now.board) == self.before.lent;
-        let counted = one == (0, 0, [moves.len() as u32 / 3, 0]);
+        let counted = one.number == 0 && one.values[0] == moves.len() as u32 / 3;
         one == two && ours && base && counted && moves == self.moves
     }
 
@@ -571,7 +577,7 @@ impl Admission {
         }
     }
 
-    fn reply_ours(&mut self) -> Reply {
+    fn reply_ours(&mut self) -> Raw {
         let Plan { vcpus, tasks, .. } = black_box(&self.plan);
         let reload = black_box(self.plan.reload);
         let (times, rounds) = (&mut self.times, &mut self.rounds);
@@ -618,7 +624,7 @@ impl Case for Admission {
         self.mark();
         let two = reply(self.reply_base(), |()| [0; 2]);
         let same = lists == (self.times.clone(), self.rounds.clone());
-        one == two && same && one.0 == self.expected && self.as_counted()
+        one == two && same && one.number == self.expected && self.as_counted()
     }
 
     fn symbols(&self) -> [&'static str; 2] {

@@ -1,10 +1,10 @@
 /*
  * Measures how much stack each function takes, with what it calls, from the first argument or return
  * address that the caller stores: the calls run on a stack of their own that was painted before, on plans
- * and boards of every size and on such as are refused. Prints the bytes for each function. README_RECOLOUR,
- * README_TAKE_BACK, README_ADMIT and README_OTHERS are what the README says of juzvanec_recolour, of
- * juzvanec_take_back, of juzvanec_admit and of the others; the exit status is 1 where a call takes more, or where
- * the README says over 512 bytes too many.
+ * and boards of every size and on such as are refused. Prints the bytes for each function.
+ *
+ * A constant JUZVANEC_STACK_* of the header is right where it is the most that was seen of its functions, rounded
+ * up to the next multiple of STEP. The exit status is 1 where one is another number, too small or too large.
  */
 #define _XOPEN_SOURCE 700
 #include <stdio.h>
@@ -235,38 +235,56 @@ static size_t most(void (*called)(void))
     return deepest;
 }
 
-#define FUNCTION(name) {"juzvanec_" #name, call_##name}
+/* What is seen is rounded up, so that a constant need not change with every few bytes. */
+#define STEP 256u
+
+/* The constants of the header, and the most that was seen of the functions that each is for. */
+static struct {
+    const char *name;
+    size_t bytes, seen;
+} constants[] = {
+    {"JUZVANEC_STACK_RECOLOUR", JUZVANEC_STACK_RECOLOUR, 0},
+    {"JUZVANEC_STACK_TAKE_BACK", JUZVANEC_STACK_TAKE_BACK, 0},
+    {"JUZVANEC_STACK_ADMIT", JUZVANEC_STACK_ADMIT, 0},
+    {"JUZVANEC_STACK_OTHERS", JUZVANEC_STACK_OTHERS, 0},
+};
+enum { RECOLOUR, TAKE_BACK, ADMIT, OTHERS }; /* their places there */
+
+#define FUNCTION(name, constant) {"juzvanec_" #name, call_##name, constant}
+
+static const struct {
+    const char *name;
+    void (*called)(void);
+    unsigned constant;
+} functions[] = {
+    FUNCTION(interface, OTHERS), FUNCTION(cache_colours, OTHERS), FUNCTION(layout, OTHERS),
+    FUNCTION(bleach, OTHERS),    FUNCTION(look, OTHERS),          FUNCTION(fault, OTHERS),
+    FUNCTION(release, OTHERS),   FUNCTION(colours, OTHERS),       FUNCTION(set_quota, OTHERS),
+    FUNCTION(part, OTHERS),      FUNCTION(admit_plan, OTHERS),    FUNCTION(recolour, RECOLOUR),
+    FUNCTION(admit, ADMIT),      FUNCTION(take_back, TAKE_BACK),
+};
 
 int main(void)
 {
-    static const struct {
-        const char *name;
-        void (*called)(void);
-    } functions[] = {FUNCTION(interface), FUNCTION(cache_colours), FUNCTION(layout),   FUNCTION(bleach),
-                     FUNCTION(look),      FUNCTION(fault),         FUNCTION(release),  FUNCTION(colours),
-                     FUNCTION(set_quota), FUNCTION(recolour),      FUNCTION(take_back), FUNCTION(part),
-                     FUNCTION(admit_plan), FUNCTION(admit)};
-    /* what the README says, and the most that was seen: of a recolouring, of taking back, of `admit`, of the others */
-    static const size_t said[] = {README_RECOLOUR, README_TAKE_BACK, README_ADMIT, README_OTHERS};
-    size_t seen[] = {0, 0, 0, 0}, bytes;
-    unsigned i, kind;
+    size_t bytes, right;
+    unsigned i;
     int wrong = 0;
 
     for (i = 0; i < sizeof functions / sizeof *functions; i++) {
         bytes = most(functions[i].called);
         printf("%s: %lu bytes of stack\n", functions[i].name, (unsigned long)bytes);
-        kind = functions[i].called == call_recolour    ? 0
-               : functions[i].called == call_take_back ? 1
-               : functions[i].called == call_admit     ? 2
-                                                       : 3;
-        if (bytes > seen[kind])
-            seen[kind] = bytes;
+        if (bytes > constants[functions[i].constant].seen)
+            constants[functions[i].constant].seen = bytes;
     }
-    for (kind = 0; kind < sizeof said / sizeof *said; kind++)
-        if (seen[kind] > said[kind] || seen[kind] + 512 < said[kind]) {
-            printf("%lu bytes of stack were seen, and the README says %lu\n", (unsigned long)seen[kind],
-                   (unsigned long)said[kind]);
+    for (i = 0; i < sizeof constants / sizeof *constants; i++) {
+        right = (constants[i].seen + STEP - 1u) / STEP * STEP;
+        if (constants[i].bytes != right) {
+            printf("%s is %lu, and %lu bytes of stack were seen: set it to %lu in include/juzvanec.h, "
+                   "and run .ci/figures --write\n",
+                   constants[i].name, (unsigned long)constants[i].bytes, (unsigned long)constants[i].seen,
+                   (unsigned long)right);
             wrong = 1;
         }
+    }
     return wrong;
 }

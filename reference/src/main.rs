@@ -7,7 +7,10 @@ use std::path::Path;
 use std::process::ExitCode;
 use std::time::Duration;
 
-use reference::{accounts, admit, compare::compare as compare_program, history, vectors, SEED};
+use reference::checks::comparison::compare as compare_program;
+use reference::checks::{accounts, histories};
+use reference::model::admit;
+use reference::{vectors, SEED};
 
 const USAGE: &str =
     "usage: reference write DIR [SEED] | reference check DIR | reference histories [SEED]
@@ -73,9 +76,9 @@ fn check(dir: &str) -> bool {
 }
 
 fn histories(seed: u64) -> bool {
-    let tally = history::check(seed, PAIRS);
+    let tally = histories::check(seed, PAIRS);
     tally.report();
-    let evenness = history::check_even(seed, PAIRS);
+    let evenness = histories::check_even(seed, PAIRS);
     evenness.report();
     let accounts = accounts::check(seed, PAIRS);
     accounts.report();

@@ -7,13 +7,15 @@ use baseline::{
     colours, fault, look, recolour, recolour_by_sort, set_quota, take_back, Board, Faulted, Looked,
     Refusal,
 };
-use reference::boards::{
+use reference::model::frames::{
+    frames_held, word, Answer, Call, State, DOMAINS, FREE, PAGES, QUOTA,
+};
+use reference::model::reply::Reply;
+use reference::random::boards::{
     accepted, any_domain, any_page, any_set, asked_quota, crowded_table, limit, NO_QUOTAS,
 };
-use reference::frames::{frames_held, word, Answer, Call, State, DOMAINS, FREE, PAGES, QUOTA};
-use reference::lists::{any_take_back, shuffled};
+use reference::random::lists::{any_take_back, shuffled};
 use reference::random::Random;
-use reference::reply::Reply;
 
 fn lent(state: &State) -> Board {
     let board = &state.board;
@@ -177,7 +179,7 @@ fn the_longest_lists() {
     for colours in [2, 4, 8, 16] {
         let mut grants = [0; DOMAINS];
         grants[0] = (1 << colours) - 1;
-        let mut board = reference::frames::Board {
+        let mut board = reference::model::frames::Board {
             colours,
             frames: 4096,
             domains: 1,

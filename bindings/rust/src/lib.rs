@@ -39,9 +39,9 @@ pub use refusal::{row_names, Refusal, RowNames};
 pub use rows::{Task, Vcpu};
 pub use text::Verdict;
 
-/// The number of the C interface that this package is for. An archive of another number makes every
-/// function panic; [`raw::juzvanec_interface`] tells that of the archive.
-pub const INTERFACE: u32 = 7;
+/// The number of the C interface that this package is for, which is that of the header. An archive of another
+/// number makes every function panic; [`raw::juzvanec_interface`] tells that of the archive.
+pub const INTERFACE: u32 = include!(concat!(env!("OUT_DIR"), "/interface"));
 
 /// The most colours of a cache.
 pub const COLOURS: usize = 16;

@@ -29,7 +29,7 @@ fn frames(
     (refusal.number, refusal.row)
 }
 
-/// 2 to 7, 26 and 8, the same of all seven calls.
+/// 2 to 7, 26 and 8, the same of all the calls.
 #[test]
 fn boards() {
     let spoils: [SpoiltFrames; 14] = [

@@ -3,8 +3,8 @@
 //! or of a lane (the frame's number modulo 16), than eight bits count. Random scripts of releases, faults and
 //! recolourings go on crowded tables.
 
-use reference::boards::{accepted, crowded_table, limit, part_of};
-use reference::frames::{word, Board, Call, State, DOMAINS, FREE, PAGES, QUOTA, RESERVED};
+use reference::model::frames::{word, Board, Call, State, DOMAINS, FREE, PAGES, QUOTA, RESERVED};
+use reference::random::boards::{accepted, crowded_table, limit, part_of};
 use reference::random::Random;
 
 use crate::frames::{any_call, any_frames, compare, recolour_to};

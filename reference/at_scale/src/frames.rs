@@ -2,16 +2,16 @@
 //! the reply, the table, the board and the move list are compared, word by word, and where it is refused they
 //! are as before.
 
-use reference::boards::{
+use interface::Raw;
+use reference::model::frames::{Answer, Board, Call, State, FREE, PAGES};
+use reference::model::reply::Reply;
+use reference::random::boards::{
     accepted, any_domain, any_page, any_set, any_word, empty_table, limit, part_of, spoil,
     NO_QUOTAS,
 };
-use reference::frames::{Answer, Board, Call, State, FREE, PAGES};
-use reference::lists::any_take_back;
+use reference::random::lists::any_take_back;
 use reference::random::Random;
-use reference::reply::Reply;
 
-use crate::interface::{self, Raw};
 use crate::lent::{Lent, LentBoard};
 use crate::tally::{unlike, Tally};
 use crate::{quotas, taking_back};

@@ -1,11 +1,11 @@
 //! Whole inputs of the program `admit`, from sound plans and from damaged ones, cut short, too long, or
 //! with counts that are wrong.
 
-use reference::admit::{judge, Verdict};
-use reference::plans::{Plan, TASK_WORDS, VCPU_WORDS};
+use interface::Raw;
+use reference::model::admit::{judge, Verdict};
+use reference::model::plans::{Plan, TASK_WORDS, VCPU_WORDS};
 use reference::random::Random;
 
-use crate::interface::{self, Raw};
 use crate::lent::Lent;
 use crate::plans::{damage, sound};
 use crate::tally::{unlike, Tally};

@@ -2,7 +2,7 @@
 //! tables are as before. The page's word stands nowhere, in each frame, or at the edges of blocks of sixteen,
 //! once or twice, in frames inside and outside the set; free frames are none, all, those outside the set, or one.
 
-use reference::frames::{word, Board, Call, State, DOMAINS, FREE, QUOTA};
+use reference::model::frames::{word, Board, Call, State, DOMAINS, FREE, QUOTA};
 
 use crate::frames::compare;
 use crate::tally::Tally;

@@ -3,7 +3,7 @@
 
 use std::fmt::Debug;
 
-use reference::frames::Board;
+use reference::model::frames::Board;
 
 const AROUND: usize = 7;
 

@@ -6,7 +6,6 @@
 mod even;
 mod frames;
 mod inputs;
-mod interface;
 mod lengths;
 mod lent;
 mod order;

@@ -3,8 +3,8 @@
 //! between; on long tables there are more moves than eight bits count. Random ones go on tables of few pages or
 //! of many.
 
-use reference::boards::{any_word, limit, part_of};
-use reference::frames::{word, Board, Call, State, DOMAINS, FREE, PAGES, QUOTA, RESERVED};
+use reference::model::frames::{word, Board, Call, State, DOMAINS, FREE, PAGES, QUOTA, RESERVED};
+use reference::random::boards::{any_word, limit, part_of};
 use reference::random::Random;
 
 use crate::frames::{any_frames, compare, recolour_to};

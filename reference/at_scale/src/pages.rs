@@ -1,11 +1,11 @@
 //! Cache sizes, layout and bleaching with random numbers, most of them near what is answered and the
 //! rest rubbish.
 
-use reference::cache;
+use interface::Raw;
+use reference::model::cache;
+use reference::model::reply::Reply;
 use reference::random::Random;
-use reference::reply::Reply;
 
-use crate::interface::{self, Raw};
 use crate::tally::{unlike, Tally};
 
 fn expected(reply: Reply<u64>) -> Raw {

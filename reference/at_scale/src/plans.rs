@@ -1,15 +1,17 @@
 //! Plans, sound and damaged, and parts of task lists. Most periods are small, since the model tries every
 //! microsecond; a few plans have periods up to 1,000,000. The boards have any numbers for quotas.
 
-use reference::boards::{accepted, part_of, spoil};
-use reference::cache::colours;
-use reference::frames::Board;
-use reference::plans::{part, Plan, Search, Vcpu, CORES, LONGEST, RELOAD, TASK_WORDS, VCPU_WORDS};
+use interface::Raw;
+use reference::model::cache::colours;
+use reference::model::frames::Board;
+use reference::model::plans::{
+    part, Plan, Search, Vcpu, CORES, LONGEST, RELOAD, TASK_WORDS, VCPU_WORDS,
+};
+use reference::model::reply::Reply;
+use reference::random::boards::{accepted, part_of, spoil};
+use reference::random::plans::{admitted, spoil_row};
 use reference::random::Random;
-use reference::random_plans::{admitted, spoil_row};
-use reference::reply::Reply;
 
-use crate::interface::{self, Raw};
 use crate::lent::{Lent, LentBoard};
 use crate::quotas;
 use crate::tally::{unlike, Tally};

@@ -2,11 +2,11 @@
 //! 02, No. 6. On chosen tables the quota, or the one that is asked for, is just what is held, one less or one more;
 //! on long ones more is held than eight bits count. Random scripts set quotas, fault, release and recolour in turn.
 
-use reference::boards::{accepted, any_word, asked_quota, limit, part_of, NO_QUOTAS};
-use reference::frames::{frames_held, no_quota, word, Answer, Board, Call, State};
-use reference::frames::{DOMAINS, FREE, PAGES, QUOTA, RESERVED};
+use reference::model::frames::{frames_held, no_quota, word, Answer, Board, Call, State};
+use reference::model::frames::{DOMAINS, FREE, PAGES, QUOTA, RESERVED};
+use reference::model::reply::Reply;
+use reference::random::boards::{accepted, any_word, asked_quota, limit, part_of, NO_QUOTAS};
 use reference::random::Random;
-use reference::reply::Reply;
 
 use crate::frames::{any_call, any_frames, compare, recolour_to};
 use crate::tally::Tally;

@@ -2,12 +2,12 @@
 //! document 02, No. 10. On chosen tables a list is right, or right but for its length, a page, a frame or two; some
 //! name half of the longest table. Random scripts recolour and take back, with other calls between.
 
-use reference::boards::{accepted, any_domain, any_word, limit, part_of};
-use reference::frames::{frames_held, has, page_held, word, Answer, Board, Call, State};
-use reference::frames::{DOMAINS, FREE, PAGES, QUOTA, RESERVED};
-use reference::lists::{any_take_back, shuffled, spoil};
+use reference::model::frames::{frames_held, has, page_held, word, Answer, Board, Call, State};
+use reference::model::frames::{DOMAINS, FREE, PAGES, QUOTA, RESERVED};
+use reference::model::reply::Reply;
+use reference::random::boards::{accepted, any_domain, any_word, limit, part_of};
+use reference::random::lists::{any_take_back, shuffled, spoil};
 use reference::random::Random;
-use reference::reply::Reply;
 
 use crate::frames::{any_call, any_frames, compare, recolour_to};
 use crate::tally::Tally;

@@ -5,18 +5,18 @@
 
 use super::plans::lone_vcpu;
 use super::{nested, put, Set};
-use crate::admit::{judge, Verdict};
-use crate::boards::spoil;
-use crate::inputs::{
+use crate::model::admit::{judge, Verdict};
+use crate::model::plans::{Plan, LONGEST, RELOAD, TASKS, TASK_WORDS, VCPUS, VCPU_WORDS};
+use crate::random::boards::spoil;
+use crate::random::encoding::{
     bytes, cuts, input, places, trailers, words, wrong_counts, DOMAIN_COUNT, GRANTS, MOST_BYTES,
 };
-use crate::plans::{Plan, LONGEST, RELOAD, TASKS, TASK_WORDS, VCPUS, VCPU_WORDS};
-use crate::random::Random;
-use crate::random_inputs::{any_input, rubbish};
-use crate::random_plans::{
+use crate::random::inputs::{any_input, rubbish};
+use crate::random::plans::{
     admitted, largest, spoil_row, stretched, task_row, vcpu_row, COLOUR_SET, COSTS, DEADLINE,
     PERIOD, VCPU_BUDGET, VCPU_PERIOD,
 };
+use crate::random::Random;
 
 pub fn set(seed: u64) -> Set {
     let mut set = Set::new("vectors_admit");

@@ -3,9 +3,9 @@
 //! words with their count. The program writes one line for each case.
 
 use super::Set;
-use crate::cache::{bleach, cache_colours, colours, drop_bits, is_count, layout};
+use crate::model::cache::{bleach, cache_colours, colours, drop_bits, is_count, layout};
+use crate::model::reply::{names, Names, Reply};
 use crate::random::Random;
-use crate::reply::{names, Names, Reply};
 
 const CACHE: u32 = 1;
 const LAYOUT: u32 = 2;

@@ -4,11 +4,11 @@
 //! so that the vectors cannot stop telling the readings apart.
 
 use super::frames::{lent_list, Script};
-use crate::boards::{accepted, any_set, any_word, crowded_table, part_of};
-use crate::frames::{word, Answer, Board, Call, DOMAINS, FREE, PAGES, QUOTA, RESERVED};
+use crate::model::frames::{word, Answer, Board, Call, DOMAINS, FREE, PAGES, QUOTA, RESERVED};
+use crate::model::reply::Reply;
+use crate::random::boards::{accepted, any_set, any_word, crowded_table, part_of};
 use crate::random::Random;
-use crate::readings::{self, wrapped, Reading, WRONG};
-use crate::reply::Reply;
+use crate::readings::choices::{self, wrapped, Reading, WRONG};
 
 pub fn scripts(random: &mut Random) -> Vec<Script> {
     let mut scripts = examples();
@@ -167,7 +167,7 @@ fn alike(script: &Script, reading: Reading) -> bool {
     script.calls.iter().all(|call| {
         let [mut list, mut other_list] = [lent_list(call.room()), lent_list(call.room())];
         let reply = model.call(call, &mut list);
-        let other_reply = readings::call(&mut other, call, &mut other_list, reading);
+        let other_reply = choices::call(&mut other, call, &mut other_list, reading);
         reply == other_reply && model == other && list == other_list
     })
 }

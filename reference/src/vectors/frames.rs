@@ -3,15 +3,17 @@
 //! the number of calls, and four words for each: operation, domain, page, set or quota, length of the move list.
 //! Behind the four of a taking back stand the words of its list.
 
-use super::{board_words, even, hash, page_order, put, quota, take_back, Set};
-use crate::boards::{
+use super::{board_words, even, hash, page_order, put, quota, taking_back, Set};
+use crate::model::cache::colours;
+use crate::model::frames::{
+    word, Answer, Board, Call, State, DOMAINS, FREE, PAGES, QUOTA, RESERVED,
+};
+use crate::model::reply::Reply;
+use crate::random::boards::{
     accepted, any_domain, any_page, any_set, any_word, empty_table, part_of, spoil,
 };
-use crate::cache::colours;
-use crate::frames::{word, Answer, Board, Call, State, DOMAINS, FREE, PAGES, QUOTA, RESERVED};
 use crate::random::Random;
-use crate::readings::{self, lowest_first};
-use crate::reply::Reply;
+use crate::readings::choices::{self, lowest_first};
 
 const LONGEST_TABLE: usize = 4200;
 pub const LONGEST_LIST: usize = 13_000;
@@ -62,8 +64,8 @@ pub fn set(seed: u64) -> Set {
     let limited = quota::scripts(&mut random, &scripts[refused.clone()]);
     quota::assert_told_apart(&limited);
     scripts.extend(limited);
-    let taken = take_back::scripts(&mut random, &scripts[refused]);
-    take_back::assert_told_apart(&taken);
+    let taken = taking_back::scripts(&mut random, &scripts[refused]);
+    taking_back::assert_told_apart(&taken);
     scripts.extend(taken);
     put(&mut set, scripts.len());
     for script in &scripts {
@@ -97,7 +99,7 @@ impl Script {
     /// chosen lowest first, so that they stay what they were; what they answer is the model's.
     fn lowest_first(board: Board, table: Vec<u16>) -> Self {
         Script {
-            step: |state, call, moves| readings::call(state, call, moves, lowest_first),
+            step: |state, call, moves| choices::call(state, call, moves, lowest_first),
             ..Script::new(board, table)
         }
     }

@@ -10,7 +10,7 @@ mod page_order;
 mod plans;
 mod quota;
 mod rounds;
-mod take_back;
+mod taking_back;
 
 use std::collections::BTreeMap;
 use std::fs;
@@ -19,8 +19,8 @@ use std::path::{Path, PathBuf};
 
 pub use admit::inputs as admit_inputs;
 
-use crate::frames::Board;
-use crate::reply::Reply;
+use crate::model::frames::Board;
+use crate::model::reply::Reply;
 
 pub struct Set {
     crate_name: &'static str,

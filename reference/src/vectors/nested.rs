@@ -3,9 +3,9 @@
 //! reply, which is seen here, so that the vectors cannot stop telling the readings apart.
 
 use super::plans::lone_vcpu;
-use crate::plans::{part, supply, tasks, vcpus, Plan, LONGEST, RELOAD, TASKS, VCPU_WORDS};
+use crate::model::plans::{part, supply, tasks, vcpus, Plan, LONGEST, RELOAD, TASKS, VCPU_WORDS};
+use crate::random::plans::{task_row, vcpu_row, DEADLINE, VCPU_BUDGET};
 use crate::random::Random;
-use crate::random_plans::{task_row, vcpu_row, DEADLINE, VCPU_BUDGET};
 
 /// Everything about a plan of one VCPU but the colour sets: the rows are periods and costs. The costs are
 /// of different sizes, so that it shows in a time which rows were charged.

@@ -4,11 +4,11 @@
 //! apart.
 
 use super::frames::{lent_list, Script, LONGEST_LIST};
-use crate::boards::{accepted, any_word, part_of};
-use crate::frames::{word, Answer, Board, Call, DOMAINS, FREE, PAGES, QUOTA, RESERVED};
-use crate::orders::{self, wrapped, Order, WRONG};
+use crate::model::frames::{word, Answer, Board, Call, DOMAINS, FREE, PAGES, QUOTA, RESERVED};
+use crate::model::reply::Reply;
+use crate::random::boards::{accepted, any_word, part_of};
 use crate::random::Random;
-use crate::reply::Reply;
+use crate::readings::orders::{self, wrapped, Order, WRONG};
 
 pub fn scripts(random: &mut Random) -> Vec<Script> {
     let mut scripts = examples();

@@ -4,17 +4,17 @@
 //! the lists of times and of rounds); 1, the part of a VCPU; 2, the least supply.
 
 use super::{hash, nested, plan_board_words, put, rounds, Set};
-use crate::boards::{accepted, spoil};
-use crate::frames::{Board, DOMAINS, QUOTA};
-use crate::plans::{
+use crate::model::frames::{Board, DOMAINS, QUOTA};
+use crate::model::plans::{
     part, supply, task_time, tasks, vcpus, Plan, Vcpu, LONGEST, RELOAD, TASKS, TASK_WORDS, VCPUS,
     VCPU_WORDS,
 };
-use crate::random::Random;
-use crate::random_plans::{
+use crate::model::reply::Reply;
+use crate::random::boards::{accepted, spoil};
+use crate::random::plans::{
     admitted, spoil_row, task_row, vcpu_row, COLOUR_SET, COSTS, DEADLINE, VCPU_BUDGET, VCPU_PERIOD,
 };
-use crate::reply::Reply;
+use crate::random::Random;
 
 const MOST_VCPU_WORDS: usize = 80;
 const MOST_TASK_WORDS: usize = 700;

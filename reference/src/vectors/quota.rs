@@ -4,16 +4,16 @@
 //! readings apart.
 
 use super::frames::{any_recolour, lent_list, Script};
-use crate::boards::{
+use crate::model::frames::{
+    frames_held, word, Answer, Board, Call, State, DOMAINS, FREE, PAGES, QUOTA, RESERVED,
+};
+use crate::model::reply::Reply;
+use crate::random::boards::{
     accepted, any_domain, any_page, any_quota, any_set, asked_quota, crowded_table, empty_table,
     limit, part_of, spoil, NO_QUOTAS,
 };
-use crate::frames::{
-    frames_held, word, Answer, Board, Call, State, DOMAINS, FREE, PAGES, QUOTA, RESERVED,
-};
-use crate::quotas::{faults_by, quotas_by, wrapped, wrong, COUNTS};
 use crate::random::Random;
-use crate::reply::Reply;
+use crate::readings::quotas::{faults_by, quotas_by, wrapped, wrong, COUNTS};
 
 /// Given are scripts whose boards 2 to 7 refuse.
 pub fn scripts(random: &mut Random, refused: &[Script]) -> Vec<Script> {
@@ -202,7 +202,7 @@ fn held_above() -> Script {
     script
 }
 
-/// One of the six calls, with arguments that are refused now and then.
+/// One of the calls but taking back, with arguments that are refused now and then.
 fn any_call(random: &mut Random, state: &State, operation: u64) -> Call {
     let domain = any_domain(random, state.board.domains);
     let page = any_page(random, &[0, 1, PAGES - 1]);
@@ -295,7 +295,7 @@ fn spoilt_field(
     script
 }
 
-/// The six calls with the right arguments, of this domain or another, and each once more with any.
+/// The calls but taking back with the right arguments, of this domain or another, and each once more with any.
 fn all_refused(random: &mut Random, script: &mut Script, row: u32, expected: Reply<Answer>) {
     let domain = match random.below(2) {
         0 => row,

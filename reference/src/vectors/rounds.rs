@@ -4,11 +4,11 @@
 //! from the right one is seen here, so that the vectors cannot stop doing so.
 
 use super::plans::lone_vcpu;
-use crate::plans::{
+use crate::model::plans::{
     part, tasks, vcpus, Earlier, Found, Plan, Search, CORES, LONGEST, TASK_WORDS, VCPU_WORDS,
 };
+use crate::random::plans::{stretched, task_row, vcpu_row, DEADLINE, VCPU_PERIOD};
 use crate::random::Random;
-use crate::random_plans::{stretched, task_row, vcpu_row, DEADLINE, VCPU_PERIOD};
 
 /// One domain with all colours; the rows are VCPU, period, deadline, colour set and one cost for any number
 /// of colours.

@@ -1,11 +1,11 @@
 //! Other readings of document 02, No. 10, than the model's: how a taking back runs by each, to be told from the
 //! model's by vectors and histories. All other calls are the model's.
 
-use crate::frames::{
+use crate::model::frames::{
     frames_held, has, page_held, refused_caller, unfit, word, Answer, Call, State, DOMAINS, FREE,
     PAGES, QUOTA, RESERVED,
 };
-use crate::reply::Reply;
+use crate::model::reply::Reply;
 
 /// What is otherwise.
 #[derive(Clone, Copy, Debug, PartialEq, Eq)]

@@ -1,11 +1,12 @@
-//! The calls of the C interface, and all unsafe code of the comparison. Every number that comes back is
-//! set to rubbish before, so that one left unwritten shows.
+//! The calls of the C interface as the comparison at scale and the benchmark make them, and all unsafe code of both.
+//! A call gives back every number that the library does, without a judgement. Each is set to rubbish before the call,
+//! so that one left unwritten shows. The calls are inlined, so that the benchmark measures little but the library.
 
 use juzvanec::{raw, Board, TEXT_BYTES};
 
 const RUBBISH: u32 = 0xA5A5_5A5A;
 
-/// The number and row of a reply, and the other numbers in the order of the header.
+/// The number and row of a reply, and the other numbers in the order of the header: 0 where a function has fewer.
 #[derive(Clone, Copy, Debug, PartialEq, Eq)]
 pub struct Raw {
     pub number: u32,
@@ -13,44 +14,47 @@ pub struct Raw {
     pub values: [u32; 2],
 }
 
-/// The reply with only so many values that the function has.
-fn raw(number: u32, row: u32, values: &[u32]) -> Raw {
-    let mut all = [0; 2];
-    all[..values.len()].copy_from_slice(values);
+#[inline(always)]
+fn reply(number: u32, row: u32, values: [u32; 2]) -> Raw {
     Raw {
         number,
         row,
-        values: all,
+        values,
     }
 }
 
+#[inline(always)]
 pub fn cache_colours(bytes: u64, ways: u64) -> Raw {
     let [mut colours, mut row] = [RUBBISH; 2];
     // SAFETY: two words of this function's own are lent.
     let number = unsafe { raw::juzvanec_cache_colours(bytes, ways, &mut colours, &mut row) };
-    raw(number, row, &[colours])
+    reply(number, row, [colours, 0])
 }
 
+#[inline(always)]
 pub fn layout(colours: u32, set: u32, index: u32) -> Raw {
     let [mut page, mut row] = [RUBBISH; 2];
     // SAFETY: two words of this function's own are lent.
     let number = unsafe { raw::juzvanec_layout(colours, set, index, &mut page, &mut row) };
-    raw(number, row, &[page])
+    reply(number, row, [page, 0])
 }
 
+#[inline(always)]
 pub fn bleach(colours: u32, set: u32, page: u32) -> Raw {
     let [mut index, mut row] = [RUBBISH; 2];
     // SAFETY: two words of this function's own are lent.
     let number = unsafe { raw::juzvanec_bleach(colours, set, page, &mut index, &mut row) };
-    raw(number, row, &[index])
+    reply(number, row, [index, 0])
 }
 
 /// The number of the archive's interface.
+#[inline(always)]
 pub fn number() -> u32 {
     // SAFETY: nothing is lent.
     unsafe { raw::juzvanec_interface() }
 }
 
+#[inline(always)]
 pub fn look(board: &Board, table: &[u16], domain: u32, page: u32) -> Raw {
     let [mut mapped, mut frame, mut row] = [RUBBISH; 3];
     // SAFETY: board and table are valid for their lengths; three words of this function's own are lent.
@@ -66,9 +70,10 @@ pub fn look(board: &Board, table: &[u16], domain: u32, page: u32) -> Raw {
             &mut row,
         )
     };
-    raw(number, row, &[mapped, frame])
+    reply(number, row, [mapped, frame])
 }
 
+#[inline(always)]
 pub fn fault(board: &Board, table: &mut [u16], domain: u32, page: u32) -> Raw {
     let [mut is_new, mut frame, mut row] = [RUBBISH; 3];
     // SAFETY: board and table are valid for their lengths; three words of this function's own are lent.
@@ -84,9 +89,10 @@ pub fn fault(board: &Board, table: &mut [u16], domain: u32, page: u32) -> Raw {
             &mut row,
         )
     };
-    raw(number, row, &[is_new, frame])
+    reply(number, row, [is_new, frame])
 }
 
+#[inline(always)]
 pub fn release(board: &Board, table: &mut [u16], domain: u32, page: u32) -> Raw {
     let [mut frame, mut row] = [RUBBISH; 2];
     // SAFETY: board and table are valid for their lengths; two words of this function's own are lent.
@@ -101,9 +107,10 @@ pub fn release(board: &Board, table: &mut [u16], domain: u32, page: u32) -> Raw 
             &mut row,
         )
     };
-    raw(number, row, &[frame])
+    reply(number, row, [frame, 0])
 }
 
+#[inline(always)]
 pub fn colours(board: &Board, table: &[u16], domain: u32) -> Raw {
     let [mut set, mut quota, mut row] = [RUBBISH; 3];
     // SAFETY: board and table are valid for their lengths; three words of this function's own are lent.
@@ -118,9 +125,10 @@ pub fn colours(board: &Board, table: &[u16], domain: u32) -> Raw {
             &mut row,
         )
     };
-    raw(number, row, &[set, quota])
+    reply(number, row, [set, quota])
 }
 
+#[inline(always)]
 pub fn set_quota(board: &mut Board, table: &[u16], domain: u32, quota: u32) -> Raw {
     let [mut answer, mut row] = [RUBBISH; 2];
     // SAFETY: board and table are valid for their lengths and lie apart; two words of this function's own
@@ -136,9 +144,10 @@ pub fn set_quota(board: &mut Board, table: &[u16], domain: u32, quota: u32) -> R
             &mut row,
         )
     };
-    raw(number, row, &[answer])
+    reply(number, row, [answer, 0])
 }
 
+#[inline(always)]
 pub fn recolour(
     board: &mut Board,
     table: &mut [u16],
@@ -162,10 +171,11 @@ pub fn recolour(
             &mut row,
         )
     };
-    raw(number, row, &[count])
+    reply(number, row, [count, 0])
 }
 
-/// The list is lent to be read alone. It comes here so that a library may be wrong and write it.
+/// The library is to read the list alone. It is lent to be written, so that a library may be wrong and write it.
+#[inline(always)]
 pub fn take_back(
     board: &mut Board,
     table: &mut [u16],
@@ -174,8 +184,8 @@ pub fn take_back(
     moves: &mut [u16],
 ) -> Raw {
     let [mut count, mut row] = [RUBBISH; 2];
-    // SAFETY: board, table and move list are valid for their lengths and lie apart; two words of this
-    // function's own are lent.
+    // SAFETY: board, table and move list are valid for their lengths and lie apart, and the list may be written,
+    // too; two words of this function's own are lent.
     let number = unsafe {
         raw::juzvanec_take_back(
             board,
@@ -189,10 +199,11 @@ pub fn take_back(
             &mut row,
         )
     };
-    raw(number, row, &[count])
+    reply(number, row, [count, 0])
 }
 
 /// The start and length of the part.
+#[inline(always)]
 pub fn part(tasks: &[u32], vcpu: u32) -> (usize, usize) {
     let [mut start, mut length] = [RUBBISH as usize; 2];
     // SAFETY: the list is valid for its length; two words of this function's own are lent.
@@ -200,6 +211,7 @@ pub fn part(tasks: &[u32], vcpu: u32) -> (usize, usize) {
     (start, length)
 }
 
+#[inline(always)]
 pub fn admit_plan(
     board: &Board,
     reload: u32,
@@ -226,10 +238,11 @@ pub fn admit_plan(
             &mut row,
         )
     };
-    raw(number, row, &[])
+    reply(number, row, [0; 2])
 }
 
 /// The values are the text's length and the words that the plan took.
+#[inline(always)]
 pub fn admit(input: &[u8], text: &mut [u8]) -> Raw {
     let text: &mut [u8; TEXT_BYTES] = text.try_into().expect("so many bytes");
     let [mut length, mut words, mut row] = [RUBBISH; 3];
@@ -245,5 +258,5 @@ pub fn admit(input: &[u8], text: &mut [u8]) -> Raw {
             &mut row,
         )
     };
-    raw(number, row, &[length, words])
+    reply(number, row, [length, words])
 }

@@ -4,10 +4,10 @@
 
 use std::collections::BTreeSet;
 
-use crate::frames::{
+use crate::model::frames::{
     frames_held, no_quota, word, Answer, Call, State, DOMAINS, FREE, PAGES, QUOTA,
 };
-use crate::reply::Reply;
+use crate::model::reply::Reply;
 
 /// How calls run.
 pub type Reading = fn(&mut State, &Call, &mut [u16]) -> Reply<Answer>;

@@ -3,8 +3,10 @@
 
 use std::collections::BTreeSet;
 
-use crate::frames::{has, page_held, refused_caller, unfit, word, Answer, Board, FREE, PAGES};
-use crate::reply::Reply;
+use crate::model::frames::{
+    has, page_held, refused_caller, unfit, word, Answer, Board, FREE, PAGES,
+};
+use crate::model::reply::Reply;
 
 /// Page, old frame and new frame, as the recolouring has written them.
 type Triple = [u16; 3];
@@ -76,7 +78,7 @@ pub fn take_back(
 #[cfg(test)]
 mod tests {
     use super::*;
-    use crate::frames::{fault, recolour, release, DOMAINS, QUOTA, RESERVED};
+    use crate::model::frames::{fault, recolour, release, DOMAINS, QUOTA, RESERVED};
 
     fn board(frames: u32, sets: &[(u32, u32)]) -> Board {
         let mut board = Board {

@@ -1,7 +1,7 @@
 //! Colours of the cache: document 01, "Colours of the cache", and document 004, "Address Bleaching".
 //! Sets are walked colour by colour and pages bit by bit.
 
-use crate::reply::Reply;
+use crate::model::reply::Reply;
 
 pub const PAGE: u128 = 4096;
 const LAST_INDEX: u32 = (1 << 24) - 1;

@@ -8,15 +8,17 @@
 
 use std::collections::BTreeSet;
 
-use crate::boards::{accepted, any_domain, any_page, any_set, empty_table, part_of, NO_QUOTAS};
-use crate::cache::colours;
-use crate::frames::{
+use crate::model::cache::colours;
+use crate::model::frames::{
     frames_held, no_quota, page_held, word, Answer, Board, Call, State, FREE, PAGES, QUOTA,
     RESERVED,
 };
-use crate::lists::{any_take_back, shuffled, spoil};
+use crate::model::reply::Reply;
+use crate::random::boards::{
+    accepted, any_domain, any_page, any_set, empty_table, part_of, NO_QUOTAS,
+};
+use crate::random::lists::{any_take_back, shuffled, spoil};
 use crate::random::Random;
-use crate::reply::Reply;
 
 /// What a call tells its domain: the reply, and the move list that it was lent as it stands afterwards.
 #[derive(Clone, Debug, PartialEq, Eq)]
@@ -789,11 +791,13 @@ impl<'a> Drawn<'a> {
 #[cfg(test)]
 mod tests {
     use super::*;
-    use crate::quotas::{
+    use crate::readings::choices::{
+        self, all_words, in_turn, lowest_first, most_free, most_held, Reading,
+    };
+    use crate::readings::quotas::{
         below_held, faults_by, first_told, next_too, of_all_domains, only_above, quotas_by,
     };
-    use crate::readings::{self, all_words, in_turn, lowest_first, most_free, most_held, Reading};
-    use crate::taking_back::{self, Wrong};
+    use crate::readings::taking_back::{self, Wrong};
 
     #[test]
     fn the_rule_holds_of_the_model() {
@@ -904,7 +908,7 @@ mod tests {
     fn uneven_loaders_are_found() {
         for reading in [lowest_first, most_held, most_free, all_words] as [Reading; 4] {
             let step = |state: &mut State, call: &Call| {
-                answered(call, |list| readings::call(state, call, list, reading))
+                answered(call, |list| choices::call(state, call, list, reading))
             };
             let evenness = check_even_step(crate::SEED, 400, step);
             assert!(evenness.violations > 20, "{evenness:?}");
@@ -918,7 +922,7 @@ mod tests {
     /// A loader that takes colours in which as many frames are held in turn, the turn being common to all
     /// domains.
     fn common_turn(state: &mut State, call: &Call) -> Answered {
-        answered(call, |list| readings::call(state, call, list, in_turn))
+        answered(call, |list| choices::call(state, call, list, in_turn))
     }
 
     /// A loader whose quota call changes the next domain's field as well.

@@ -4,8 +4,8 @@
 
 use std::fmt;
 
-use crate::frames::{refused_board, unfit, Board};
-use crate::reply::Reply;
+use crate::model::frames::{refused_board, unfit, Board};
+use crate::model::reply::Reply;
 
 pub const CORES: u32 = 4;
 /// The longest period, in microseconds, and the highest cost.
@@ -416,7 +416,7 @@ impl Plan {
 #[cfg(test)]
 mod tests {
     use super::*;
-    use crate::frames::{DOMAINS, QUOTA};
+    use crate::model::frames::{DOMAINS, QUOTA};
     use crate::random::Random;
 
     /// One domain with colours 0 to 7, and one VCPU.
@@ -869,7 +869,7 @@ mod tests {
         let mut random = Random::new(3);
         let (mut at_bound, mut late) = (0, 0);
         for i in 0..60 {
-            let mut plan = crate::random_plans::admitted(&mut random, 1 + i % VCPUS, 1 + i % 9);
+            let mut plan = crate::random::plans::admitted(&mut random, 1 + i % VCPUS, 1 + i % 9);
             if i % 2 == 0 {
                 // costs and budgets that are too high for some of the rows
                 for row in plan.tasks.chunks_exact_mut(TASK_WORDS) {

@@ -1,8 +1,8 @@
 //! Random lists for takings back (document 02, No. 10), shared by the vectors, the histories and the comparison at
 //! scale: right ones, and ones that are right but for a little.
 
-use crate::boards::{any_set, part_of};
-use crate::frames::{page_held, Call, State, FREE, PAGES};
+use crate::model::frames::{page_held, Call, State, FREE, PAGES};
+use crate::random::boards::{any_set, part_of};
 use crate::random::Random;
 
 /// Whether the frame's colour is in the set, on any board.

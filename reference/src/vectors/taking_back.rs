@@ -7,15 +7,17 @@ use super::frames::{any_recolour, Script, LONGEST_LIST};
 use super::quota::{
     active, alike, answered, board, fault, freed, look, moved, new, recolour, release, set_quota,
 };
-use crate::boards::{
+use crate::model::frames::{
+    frames_held, word, Answer, Call, DOMAINS, FREE, PAGES, QUOTA, RESERVED,
+};
+use crate::model::reply::Reply;
+use crate::random::boards::{
     accepted, any_domain, any_quota, any_set, asked_quota, crowded_table, empty_table, limit,
     part_of, NO_QUOTAS,
 };
-use crate::frames::{frames_held, word, Answer, Call, DOMAINS, FREE, PAGES, QUOTA, RESERVED};
-use crate::lists::{any_take_back, right_list, shuffled, spoil};
+use crate::random::lists::{any_take_back, right_list, shuffled, spoil};
 use crate::random::Random;
-use crate::reply::Reply;
-use crate::taking_back::{self, Wrong, WRONG};
+use crate::readings::taking_back::{self, Wrong, WRONG};
 
 /// Given are scripts whose boards 2 to 7 refuse.
 pub fn scripts(random: &mut Random, refused: &[Script]) -> Vec<Script> {
@@ -353,7 +355,7 @@ fn spoilt_quota(random: &mut Random, domains: u32) -> Script {
     let mut board = accepted(random, n, 3 * n, domains);
     let domain = random.below(domains.into()) as u32;
     let grant = board.grants[domain as usize];
-    let own = crate::cache::colours(grant)[0];
+    let own = crate::model::cache::colours(grant)[0];
     let mut table = vec![FREE; 3 * n as usize];
     table[own as usize] = word(domain, 8) as u16;
     board.active[domain as usize] = grant;

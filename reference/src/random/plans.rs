@@ -1,13 +1,13 @@
 //! Random plans that are admitted, and faults put into them, for the vectors. The terms are those of
 //! document 01, "Plans", and the faults those of refusals 17 to 22.
 
-use crate::boards::{accepted, part_of};
-use crate::cache::colours;
-use crate::frames::{unfit, Board, DOMAINS, FRAMES};
-use crate::plans::{
+use crate::model::cache::colours;
+use crate::model::frames::{unfit, Board, DOMAINS, FRAMES};
+use crate::model::plans::{
     part, task_time, tasks, vcpu_time, vcpus, Plan, Vcpu, CORES, LONGEST, RELOAD, TASKS,
     TASK_WORDS, VCPUS, VCPU_WORDS,
 };
+use crate::random::boards::{accepted, part_of};
 use crate::random::Random;
 
 pub const PERIOD: usize = 1;

@@ -4,13 +4,13 @@
 //! fault of an unmapped page as its next call gets it." Each domain is looked at after each call, and its frames are
 //! counted a second time from its log alone, which has what its calls were answered and not what they were.
 
-use crate::boards::{any_domain, part_of};
-use crate::cache::colours;
-use crate::frames::{frames_held, has, page_held, Answer, Call, State, FREE, PAGES, QUOTA};
-use crate::history::{once, step, Drawn, Trial};
-use crate::lists::any_take_back;
+use crate::checks::histories::{once, step, Drawn, Trial};
+use crate::model::cache::colours;
+use crate::model::frames::{frames_held, has, page_held, Answer, Call, State, FREE, PAGES, QUOTA};
+use crate::model::reply::Reply;
+use crate::random::boards::{any_domain, part_of};
+use crate::random::lists::any_take_back;
 use crate::random::Random;
-use crate::reply::Reply;
 
 /// What a call adds to a count of frames, with its reply; and what a log comes to, which has only replies.
 type OfCall = fn(&Call, Reply<Answer>) -> i64;
@@ -395,11 +395,11 @@ fn take_all(random: &mut Random, drawn: &mut Drawn, domain: u32) {
 #[cfg(test)]
 mod tests {
     use super::*;
-    use crate::frames::{word, Board, DOMAINS, RESERVED};
-    use crate::history::{answered, Answered, Step};
-    use crate::quotas::{below_held, faults_by, of_all_domains, one_early};
-    use crate::readings::{self, whole_grant};
-    use crate::taking_back::{self, Wrong};
+    use crate::checks::histories::{answered, Answered, Step};
+    use crate::model::frames::{word, Board, DOMAINS, RESERVED};
+    use crate::readings::choices::{self, whole_grant};
+    use crate::readings::quotas::{below_held, faults_by, of_all_domains, one_early};
+    use crate::readings::taking_back::{self, Wrong};
 
     #[test]
     fn the_accounts_hold_of_the_model() {
@@ -675,7 +675,7 @@ mod tests {
 
     /// A loader that takes the colours of the whole grant for active.
     fn faults_by_grant(state: &mut State, call: &Call) -> Answered {
-        answered(call, |list| readings::call(state, call, list, whole_grant))
+        answered(call, |list| choices::call(state, call, list, whole_grant))
     }
 
     /// A loader that refuses 28 one frame early.

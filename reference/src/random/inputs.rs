@@ -1,16 +1,16 @@
 //! Random inputs of the program `admit`, whole and broken, for the comparison with a compiled one.
 //! The faults are those of document 01, "Refusals in the order tested".
 
-use crate::boards::spoil;
-use crate::frames::DOMAINS;
-use crate::inputs::{
+use crate::model::frames::DOMAINS;
+use crate::model::plans::{Plan, LONGEST, RELOAD, TASKS, TASK_WORDS, VCPUS, VCPU_WORDS};
+use crate::random::boards::spoil;
+use crate::random::encoding::{
     bytes, cuts, input, places, trailers, words, wrong_counts, DOMAIN_COUNT, MOST_BYTES,
 };
-use crate::plans::{Plan, LONGEST, RELOAD, TASKS, TASK_WORDS, VCPUS, VCPU_WORDS};
-use crate::random::Random;
-use crate::random_plans::{
+use crate::random::plans::{
     admitted, largest, spoil_row, stretched, COSTS, DEADLINE, PERIOD, VCPU_BUDGET, VCPU_PERIOD,
 };
+use crate::random::Random;
 
 /// Any input: of an admitted plan, of one with faults, or one that is no plan.
 pub fn any_input(random: &mut Random) -> Vec<u8> {
@@ -260,7 +260,7 @@ fn counted_rubbish(random: &mut Random) -> Vec<u8> {
 #[cfg(test)]
 mod tests {
     use super::*;
-    use crate::admit::{judge, Verdict};
+    use crate::model::admit::{judge, Verdict};
     use std::collections::BTreeMap;
 
     /// The plan alone is admitted, and with a byte less or more it is refused.

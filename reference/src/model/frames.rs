@@ -6,9 +6,9 @@
 use std::collections::VecDeque;
 use std::fmt;
 
-use crate::cache::{self, is_count};
-use crate::reply::Reply;
-use crate::take_back::take_back;
+use crate::model::cache::{self, is_count};
+use crate::model::reply::Reply;
+use crate::model::taking_back::take_back;
 
 pub const DOMAINS: usize = 8;
 pub const FRAMES: u32 = 4096;

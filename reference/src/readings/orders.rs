@@ -1,8 +1,8 @@
 //! Other readings of document 02, No. 4, than the model's: the move list that each leaves, to be told from the
 //! model's by vectors. The first is the order before No. 4.
 
-use crate::frames::{word, Answer, Call, State, FREE, PAGES};
-use crate::reply::Reply;
+use crate::model::frames::{word, Answer, Call, State, FREE, PAGES};
+use crate::model::reply::Reply;
 
 /// What a loader may go by when it writes the list.
 pub struct Listed<'a> {

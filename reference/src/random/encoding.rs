@@ -1,7 +1,7 @@
 //! Inputs of the program `admit` made from plans, and the lengths and counts at which they are broken:
 //! document 01, end of "Examples from the recorder", and refusal 1.
 
-use crate::plans::{Plan, TASK_WORDS, VCPU_WORDS};
+use crate::model::plans::{Plan, TASK_WORDS, VCPU_WORDS};
 
 /// The longest input: 8 domains, 16 VCPUs and 32 tasks.
 pub const MOST_BYTES: usize = 2872;

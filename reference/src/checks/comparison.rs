@@ -5,10 +5,10 @@ use std::collections::BTreeMap;
 use std::io;
 use std::time::Duration;
 
-use crate::admit::{judge, Verdict};
-use crate::pipe::{any_pieces, run, Outcome, Piece};
+use crate::checks::pipe::{any_pieces, run, Outcome, Piece};
+use crate::model::admit::{judge, Verdict};
+use crate::random::inputs::{any_input, edges};
 use crate::random::Random;
-use crate::random_inputs::{any_input, edges};
 use crate::vectors::admit_inputs;
 
 /// Of so many differences the input and both outputs are printed.

@@ -3,8 +3,8 @@
 
 use std::fmt;
 
-use crate::frames::{Board, DOMAINS, QUOTA};
-use crate::plans::{Plan, TASKS, TASK_WORDS, VCPUS, VCPU_WORDS};
+use crate::model::frames::{Board, DOMAINS, QUOTA};
+use crate::model::plans::{Plan, TASKS, TASK_WORDS, VCPUS, VCPU_WORDS};
 
 /// The bytes that are still to be read.
 struct Input<'a>(&'a [u8]);

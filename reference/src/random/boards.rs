@@ -1,8 +1,8 @@
 //! Random boards, frame tables and numbers for calls, shared by the vectors, the histories and the comparison
 //! at scale. The terms are those of document 01, "Board and frame table".
 
-use crate::cache::colours;
-use crate::frames::{frames_held, word, Board, DOMAINS, FREE, PAGES, QUOTA, RESERVED};
+use crate::model::cache::colours;
+use crate::model::frames::{frames_held, word, Board, DOMAINS, FREE, PAGES, QUOTA, RESERVED};
 use crate::random::Random;
 
 /// A nonempty part of the set, unless it is empty.

@@ -1,9 +1,9 @@
 //! Other readings of document 02, No. 7, than the model's: the choice of a free frame that each makes, to be
 //! told from the model's by vectors and histories. The first is the rule before No. 7.
 
-use crate::cache::colours;
-use crate::frames::{word, Answer, Board, Call, State, FREE, PAGES};
-use crate::reply::Reply;
+use crate::model::cache::colours;
+use crate::model::frames::{word, Answer, Board, Call, State, FREE, PAGES};
+use crate::model::reply::Reply;
 
 /// What a loader may go by when it chooses a frame.
 pub struct Sight<'a> {
