@@ -1,5 +1,5 @@
 -- The laws of `admission`.
-pub mod Admits
-pub mod OnCore
-pub mod Timing
-pub mod Written
+pub mod RefusalOrder
+pub mod CoreVcpus
+pub mod RowLoops
+pub mod LentLists

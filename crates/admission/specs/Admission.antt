@@ -10,7 +10,7 @@ use Rattle.board.specs.declared.Board.{Board}
 use Rattle.board.specs.Tests.{boardTests}
 use Rattle.rows.specs.RowWords.{vcpuRows, taskRows}
 use Rattle.plan.specs.Tests.{planTests}
-use Rattle.times.specs.First.{Time, At, Late}
+use Rattle.times.specs.FirstTime.{Time, At, Late}
 use Rattle.times.specs.Times.{taskTime, vcpuTime}
 use Rattle.times.specs.Rounds.{taskRounds, vcpuRounds}
 
@@ -29,8 +29,8 @@ timeTests reload vcpus tasks =
     ++ each (taskRows tasks) 22 (λ (j : ℕ). isLate (taskTime reload vcpus tasks j))
 
 -- the room of the lists of times and of rounds is that of the shorter
-abbrev pub room : List ℕ → List ℕ → ℕ
-room times rounds = min (length times) (length rounds)
+abbrev pub roomOf : List ℕ → List ℕ → ℕ
+roomOf times rounds = min (length times) (length rounds)
 
 -- without a frame table, 3 is about F alone
 unfoldable pub admissionReply : Board → ℕ → List ℕ → List ℕ → ℕ → Reply (Unit {0})
@@ -56,10 +56,19 @@ abbrev pub listAfter : Reply (Unit {0}) → List ℕ → List ℕ → List ℕ
 listAfter (Answers a) numbers lent = numbers ++ drop (length numbers) lent
 listAfter (Refuses n r) numbers lent = lent
 
-unfoldable pub timesAfter : Board → ℕ → List ℕ → List ℕ → List ℕ → List ℕ → List ℕ
-timesAfter b reload vcpus tasks times rounds =
-    listAfter (admissionReply b reload vcpus tasks (room times rounds)) (allTimes reload vcpus tasks) times
+-- what admission comes to: its reply, and the lists of times and of rounds that it leaves
+pub record Judged : Type 0 where
+  pub reply : Reply (Unit {0})
+  pub times : List ℕ
+  pub rounds : List ℕ
 
-unfoldable pub roundsAfter : Board → ℕ → List ℕ → List ℕ → List ℕ → List ℕ → List ℕ
-roundsAfter b reload vcpus tasks times rounds =
-    listAfter (admissionReply b reload vcpus tasks (room times rounds)) (allRounds reload vcpus tasks) rounds
+abbrev pub leaving : Reply (Unit {0}) → List ℕ → List ℕ → Judged
+leaving reply times rounds = record { reply = reply; times = times; rounds = rounds }
+
+-- by a reply to a plan, and by that of admission
+abbrev pub judgedBy : Reply (Unit {0}) → ℕ → List ℕ → List ℕ → List ℕ → List ℕ → Judged
+judgedBy reply reload vcpus tasks times rounds =
+    leaving reply (listAfter reply (allTimes reload vcpus tasks) times) (listAfter reply (allRounds reload vcpus tasks) rounds)
+
+unfoldable pub judged : Board → ℕ → List ℕ → List ℕ → List ℕ → List ℕ → Judged
+judged b reload vcpus tasks times rounds = judgedBy (admissionReply b reload vcpus tasks (roomOf times rounds)) reload vcpus tasks times rounds

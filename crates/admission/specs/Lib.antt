@@ -2,5 +2,5 @@
 -- over the rows find.
 pub mod Admission
 pub mod Paper
-pub mod Timed
-pub mod Earlier
+pub mod RowTimes
+pub mod EarlierVcpus

@@ -1,6 +1,6 @@
 -- The answers of this crate's functions in document 01's words: a time or late, and admitted or the refusal's number and row.
 use Rattle.refusal.specs.Reply.{Reply, Answers, Refuses}
-use Rattle.times.specs.First.{Time, At, Late}
+use Rattle.times.specs.FirstTime.{Time, At, Late}
 use Rattle.admission.specs.declared.Admission.{Admission}
 use Rattle.admission.specs.declared.Admission.the-variants.{Admitted, Refused}
 use Rattle.admission.specs.declared.search.Found.{Found}

@@ -9,15 +9,15 @@ ghost use mathlib.Core.Path.{_≡_};
 ghost use Prim.Native.Nat.{_+_, _≤_, min};
 ghost use Rattle.refusal.specs.Reply.{unless};
 ghost use Rattle.rows.specs.RowWords.{vcpuRows, taskRows};
-ghost use Rattle.rows.specs.Valid.{Plan};
-ghost use Rattle.admission.specs.Admission.{timeTests, room, admissionReply, allTimes, allRounds, listAfter, timesAfter, roundsAfter};
+ghost use Rattle.rows.specs.ValidRows.{Plan};
+ghost use Rattle.admission.specs.Admission.{timeTests, roomOf, leaving, judgedBy, judged};
 ghost use Rattle.admission.specs.Paper.{paperAdmission};
 use crate::row_times::task_times;
 use crate::row_times::vcpu_times;
 use crate::row_times::write_front;
 use board::Board;
 use board::Checked;
-use board::check_board;
+use board_tests::check_board;
 use plan::check_plan;
 use refusal::Refusal;
 use rows::TASK_WORDS;
@@ -38,9 +38,7 @@ pub fn admit_plan(
     times: &mut [u32],
     rounds: &mut [u32],
 ) -> Admission
-    ensures { λ r. ⌜ paperAdmission r ≡ admissionReply board reload (now (vcpus .entry)) (now (tasks .entry)) (room (now (times .entry)) (now (rounds .entry))) ⌝ }
-    ensures { λ r. ⌜ now (times .exit) ≡ timesAfter board reload (now (vcpus .entry)) (now (tasks .entry)) (now (times .entry)) (now (rounds .entry)) ⌝ }
-    ensures { λ r. ⌜ now (rounds .exit) ≡ roundsAfter board reload (now (vcpus .entry)) (now (tasks .entry)) (now (times .entry)) (now (rounds .entry)) ⌝ }
+    ensures { λ r. ⌜ leaving (paperAdmission r) (now (times .exit)) (now (rounds .exit)) ≡ judged board reload (now (vcpus .entry)) (now (tasks .entry)) (now (times .entry)) (now (rounds .entry)) ⌝ }
 {
     if let Checked::Refused(refusal) = check_board(board, board.frames as usize) {
         return Admission::Refused(refusal);
@@ -66,10 +64,8 @@ fn admit_rows(
     times: &mut [u32],
     rounds: &mut [u32],
 ) -> Admission
-    requires { ⌜ Plan reload (now vcpus) (now tasks) × (vcpuRows (now vcpus) + taskRows (now tasks) ≤ room (now times) (now rounds)) ⌝ }
-    ensures { λ r. ⌜ paperAdmission r ≡ unless (timeTests reload (now (vcpus .entry)) (now (tasks .entry))) tt ⌝ }
-    ensures { λ r. ⌜ now (times .exit) ≡ listAfter (unless (timeTests reload (now (vcpus .entry)) (now (tasks .entry))) tt) (allTimes reload (now (vcpus .entry)) (now (tasks .entry))) (now (times .entry)) ⌝ }
-    ensures { λ r. ⌜ now (rounds .exit) ≡ listAfter (unless (timeTests reload (now (vcpus .entry)) (now (tasks .entry))) tt) (allRounds reload (now (vcpus .entry)) (now (tasks .entry))) (now (rounds .entry)) ⌝ }
+    requires { ⌜ Plan reload (now vcpus) (now tasks) × (vcpuRows (now vcpus) + taskRows (now tasks) ≤ roomOf (now times) (now rounds)) ⌝ }
+    ensures { λ r. ⌜ leaving (paperAdmission r) (now (times .exit)) (now (rounds .exit)) ≡ judgedBy (unless (timeTests reload (now (vcpus .entry)) (now (tasks .entry))) tt) reload (now (vcpus .entry)) (now (tasks .entry)) (now (times .entry)) (now (rounds .entry)) ⌝ }
 {
     let mut found = [0u32; 48];
     let mut counts = [0u32; 48];

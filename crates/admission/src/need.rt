@@ -5,8 +5,8 @@ ghost use Prim.Native.Nat.{ℕ, _≤_, _<_};
 ghost use lib.ListN.{getD};
 ghost use Rattle.times.specs.Times.{arrivals as arrivalsOf, need};
 ghost use Rattle.rows.specs.RowWords.{taskPeriod, vcpuRows, taskRows};
-ghost use Rattle.rows.specs.Valid.{Tasks, Vcpus};
-ghost use Rattle.admission.specs.Earlier.{Within, OnCore};
+ghost use Rattle.rows.specs.ValidRows.{Tasks, Vcpus};
+ghost use Rattle.admission.specs.EarlierVcpus.{RowInRange, OnCore};
 use rows::TASK_PERIOD;
 use rows::VCPU_BUDGET;
 use rows::VCPU_CORE;
@@ -78,7 +78,7 @@ pub(crate) fn vcpu_need(
     count: u32,
     t: u32,
 ) -> u64
-    requires { ⌜ (own ≤ 1000000) × (t ≤ 1000000) × (count ≤ 16) × ((j : ℕ) → j < count → Within (now periods) (now budgets) j) ⌝ }
+    requires { ⌜ (own ≤ 1000000) × (t ≤ 1000000) × (count ≤ 16) × ((j : ℕ) → j < count → RowInRange (now periods) (now budgets) j) ⌝ }
     ensures { λ r. ⌜ r ≡ need own (λ (j : ℕ). getD (now (periods .entry)) j 0) (λ (j : ℕ). getD (now (budgets .entry)) j 0) count t ⌝ }
 {
     let mut sum = own as u64;

@@ -6,7 +6,7 @@ ghost use Rattle.supply.specs.Supply.{firstSupply, Budget};
 ghost use Rattle.times.specs.Times.{timeInPart, vcpuTime as vcpuTimeOf};
 ghost use Rattle.times.specs.Rounds.{roundsInPart, vcpuRounds};
 ghost use Rattle.rows.specs.RowWords.{vcpuRows, taskRows};
-ghost use Rattle.rows.specs.Valid.{Tasks, Vcpus};
+ghost use Rattle.rows.specs.ValidRows.{Tasks, Vcpus};
 ghost use Rattle.admission.specs.Paper.{paperFound};
 use crate::need::core_rows;
 use crate::need::task_need;

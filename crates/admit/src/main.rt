@@ -1,6 +1,7 @@
 // The program `admit`: a plan on standard input, the verdict on standard output. `main` reads, calls
 // `report::answer` and writes; without a whole input there is no verdict, and a line on standard error says so.
 use report::INPUT_BYTES;
+use text::TEXT_BYTES;
 
 enum Input {
     Whole(usize),
@@ -56,7 +57,7 @@ fn main() {
         io::write_all(libc::STDERR_FILENO, b"admit: the input could not be read\n");
         return;
     };
-    let mut text = [0u8; 1024];
+    let mut text = [0u8; TEXT_BYTES];
     let length = report::answer(&input, read, &mut text);
     if !io::write_all(libc::STDOUT_FILENO, &text[..length]) {
         io::write_all(

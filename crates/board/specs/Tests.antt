@@ -6,7 +6,8 @@ use mathlib.Core.List.{List, [], _∷_, _++_}
 use lib.Bits.{bitAnd}
 use lib.Dec.{eqb, ltb}
 use lib.ListN.{getD, replicate}
-use Rattle.lists.specs.Range.{upto, any}
+use Rattle.limits.specs.Limits.{mostFrames, mostQuota}
+use Rattle.lists.specs.Range.{upto, anyOf}
 use Rattle.refusal.specs.Reply.{Reply, Test, test, each, unless}
 use Rattle.colours.specs.Cache.{countTest}
 use Rattle.colours.specs.Sets.{isColourSet}
@@ -32,7 +33,7 @@ emptyOrOutside g s = eqb s 0 || not (eqb (bitAnd s g) s)
 
 -- 3: F is 0 or above 4,096, or the table has another number of words
 abbrev pub badFrames : Board → ℕ → Bool
-badFrames b words = eqb (b .frames) 0 || (ltb 4096 (b .frames) || not (eqb words (b .frames)))
+badFrames b words = eqb (b .frames) 0 || (ltb mostFrames (b .frames) || not (eqb words (b .frames)))
 
 -- 4: the domain count is 0 or above 8
 abbrev pub badDomains : Board → Bool
@@ -44,7 +45,7 @@ badGrant b d = not (isColourSet (b .colours) (grant b d))
 
 -- 6: it shares a bit with another's
 abbrev pub sharesWithAnother : Board → ℕ → Bool
-sharesWithAnother b d = any (λ (e : ℕ). not (eqb e d) && shares (grant b d) (grant b e)) (upto (b .domains))
+sharesWithAnother b d = anyOf (λ (e : ℕ). not (eqb e d) && shares (grant b d) (grant b e)) (upto (b .domains))
 
 -- 7: a domain's active set is 0 or has a bit outside its grant
 abbrev pub badActive : Board → ℕ → Bool
@@ -52,14 +53,14 @@ badActive b d = emptyOrOutside (grant b d) (activeSet b d)
 
 -- the quotas that whoever fills a board in gives it: 4,096 at first
 abbrev pub firstQuotas : List ℕ
-firstQuotas = replicate 8 4096
+firstQuotas = replicate 8 mostQuota
 
 -- 26: a quota is 0 or above 4,096; on a board, that of a domain below the count
 abbrev pub noQuota : ℕ → Bool
-noQuota q = eqb q 0 || ltb 4096 q
+noQuota q = eqb q 0 || ltb mostQuota q
 
 unfoldable pub badQuotas : Board → Bool
-badQuotas b = any (λ (d : ℕ). noQuota (quota b d)) (upto (b .domains))
+badQuotas b = anyOf (λ (d : ℕ). noQuota (quota b d)) (upto (b .domains))
 
 abbrev pub quotasTest : Board → Test
 quotasTest b = test 26 (badQuotas b)

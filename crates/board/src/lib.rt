@@ -1,6 +1,5 @@
-// The board by value, and refusals 2 to 8 and 26: document 01, "Board and frame table", and 02, No. 6. check_board
-// tests a board with a frame table of so many words, as admission does; check_call a call of a domain.
-mod domains;
+// The board by value, its fields, and what a test of it says: document 01, "Board and frame table", and 02, No. 6. The
+// definitions of its refusals are here too; the code that tests for them is in `board_tests`.
 mod fields;
 mod quotas;
 
@@ -10,16 +9,9 @@ pub use fields::quota_of;
 pub use quotas::first_quotas;
 pub use quotas::no_quota;
 ghost use mathlib.Core.Path.{_≡_};
-ghost use Rattle.board.specs.Tests.{boardReply, stateReply, callReply};
+ghost use Rattle.refusal.specs.Reply.{test, also as alsoTest};
 ghost use Rattle.board.specs.Paper.{paperChecked};
-use crate::domains::check_domains;
-use crate::quotas::bad_quotas;
-use colours::is_colour_count;
 use refusal::Refusal;
-
-const MOST_FRAMES: u32 = 4096;
-
-const MOST_DOMAINS: u32 = 8;
 
 // N, F, the domain count, and a grant, an active set and a quota for each domain. Fields of domains at or
 // beyond the count are neither read nor changed. A caller in C lends it as its 27 words, without gaps.
@@ -38,51 +30,17 @@ pub enum Checked {
     Refused(Refusal),
 }
 
-// Refusals 2 to 7. A count above 8 stops here before any domain's field is read.
-pub fn check_board(board: Board, words: usize) -> Checked
-    ensures { λ r. ⌜ paperChecked r ≡ boardReply board words ⌝ }
+// What the tests so far say, and one more behind them, whose row is 0.
+pub fn also(checked: Checked, number: u32, fails: bool) -> Checked
+    ensures { λ r. ⌜ paperChecked r ≡ alsoTest (paperChecked checked) (test number fails) ⌝ }
 {
-    if !is_colour_count(board.colours) {
-        return Checked::Refused(Refusal { number: 2, row: 0 });
-    }
-    let frames = board.frames;
-    if frames == 0 || MOST_FRAMES < frames || words != frames as usize {
-        return Checked::Refused(Refusal { number: 3, row: 0 });
-    }
-    let domains = board.domains;
-    if domains == 0 || MOST_DOMAINS < domains {
-        return Checked::Refused(Refusal { number: 4, row: 0 });
-    }
-    check_domains(board)
-}
-
-// Refusals 2 to 7 and 26.
-fn check_state(board: Board, words: usize) -> Checked
-    ensures { λ r. ⌜ paperChecked r ≡ stateReply board words ⌝ }
-{
-    match check_board(board, words) {
+    match checked {
         Checked::Refused(refusal) => Checked::Refused(refusal),
         Checked::Accepted => {
-            if bad_quotas(board) {
-                Checked::Refused(Refusal { number: 26, row: 0 })
+            if fails {
+                Checked::Refused(Refusal { number, row: 0 })
             } else {
                 Checked::Accepted
-            }
-        }
-    }
-}
-
-// Refusals 2 to 7, 26 and 8: what every call that names a domain starts with.
-pub fn check_call(board: Board, words: usize, domain: u32) -> Checked
-    ensures { λ r. ⌜ paperChecked r ≡ callReply board words domain ⌝ }
-{
-    match check_state(board, words) {
-        Checked::Refused(refusal) => Checked::Refused(refusal),
-        Checked::Accepted => {
-            if domain < board.domains {
-                Checked::Accepted
-            } else {
-                Checked::Refused(Refusal { number: 8, row: 0 })
             }
         }
     }

@@ -10,18 +10,19 @@ use lib.Dec.{eqb, leb}
 use lib.ListN.{length, set}
 use lib.Seq.{getD-set-other, set-comm}
 use borrow.Author.Tests.{eqb-false, leb-true, not-true}
+use Rattle.limits.specs.Limits.{lastPage}
 use Rattle.lists.specs.Range.{upto, keep}
-use Rattle.lists.proofs.Split.{cases, and-both}
+use Rattle.lists.proofs.CaseSplits.{cases, and-both}
 use Rattle.lists.proofs.Members as members
-use Rattle.lists.proofs.Filter as filter
-use Rattle.lists.proofs.Same.{one-fewer}
+use Rattle.lists.proofs.FilteredRange as filter
+use Rattle.lists.proofs.AgreeingTests.{one-fewer}
 use Rattle.refusal.specs.Reply.{Answers}
 use Rattle.calls.specs.Table.{State, word, wordOf, inSet, isHeld, isStray, framesWith, frees, strays}
-use Rattle.calls.specs.Choices.{nextFrame, without, taken, choices}
-use Rattle.calls.specs.Calls.{Move, pairUp, pairs, earlier, insert, inOrder, move, moveAll, Moved, recolour}
-use Rattle.calls.proofs.Choice.{Chosen, still-free, each-free, chosen}
-use Rattle.calls.proofs.Recoloured.{recoloured}
-use Rattle.calls.proofs.Moves.{Each, Sorted, Lower, Rising, pair-both}
+use Rattle.calls.specs.FrameChoice.{nextFrame, without, taken, choices}
+use Rattle.calls.specs.Calls.{Move, pairUp, pairs, earlier, insertMove, inOrder, move, moveAll, Moved, recolour}
+use Rattle.calls.proofs.ChoiceLaws.{Chosen, still-free, each-free, chosen}
+use Rattle.calls.proofs.RecolouringDone.{recoloured}
+use Rattle.calls.proofs.Moves.{EachMove, Sorted, Lower, Rising, pair-both}
 use Rattle.calls.proofs.MoveList.{pairs-rise}
 use Rattle.calls.proofs.PageOrder.{each-order}
 
@@ -53,8 +54,8 @@ either-first t a b h =
     ∙ set-comm (set tb (a .source) 0) (a .target) (b .target) v w (h .targets)
     ∙ ap (λ (u : List ℕ). set u (a .target) v) (set-comm tb (a .source) (b .target) 0 w (h .out-in)))
 
-insert-moves : (t : List ℕ) (m : Move) (ms : List Move) → Each (Apart m) ms → moveAll t (insert m ms) ≡ moveAll (move t m) ms
-unfolding insert moveAll
+insert-moves : (t : List ℕ) (m : Move) (ms : List Move) → EachMove (Apart m) ms → moveAll t (insertMove m ms) ≡ moveAll (move t m) ms
+unfolding insertMove moveAll
 insert-moves t m [] apart = refl
 insert-moves t m (a ∷ ms) apart =
     cases (earlier a m)
@@ -89,7 +90,7 @@ taken-once n m coloured (suc k) free held l =
 abbrev Other : Move → Move → Type 0
 Other a b = b .target ≡ a .target → ⊥
 
-targets-other : (d f : ℕ) (t vs gs : List ℕ) → members.Each (λ (g : ℕ). g ≡ f → ⊥) gs → Each (λ m. m .target ≡ f → ⊥) (pairUp d t vs gs)
+targets-other : (d f : ℕ) (t vs gs : List ℕ) → members.Each (λ (g : ℕ). g ≡ f → ⊥) gs → EachMove (λ m. m .target ≡ f → ⊥) (pairUp d t vs gs)
 unfolding pairUp
 targets-other d f t [] gs h = tt
 targets-other d f t (v ∷ vs) [] h = tt
@@ -105,14 +106,14 @@ pairs-other d t (v ∷ vs) (g ∷ gs) h = (targets-other d g t vs gs (h .0), pai
 pub record Leads (s : State) (d c : ℕ) (m : Move) : Type 0 where
   pub from-frame : m .source < s .board .frames
   pub to-frame : m .target < s .board .frames
-  pub small : m .page ≤ 4095
+  pub small : m .page ≤ lastPage
   pub held : word (s .table) (m .source) ≡ wordOf d (m .page)
   pub free : word (s .table) (m .target) ≡ 0
   pub outside : inSet (s .board .colours) c (m .source) ≡ false
   pub inside : inSet (s .board .colours) c (m .target) ≡ true
 
 module _ (s : State) (d c : ℕ) (coloured : 0 < s .board .colours) where
-  pub pairs-lead : Each (Leads s d c) (pairs s d c)
+  pub pairs-lead : EachMove (Leads s d c) (pairs s d c)
   unfolding strays framesWith
   pairs-lead =
       let stray : ℕ → Bool = isStray (s .table) (s .board .colours) d c in
@@ -120,9 +121,9 @@ module _ (s : State) (d c : ℕ) (coloured : 0 < s .board .colours) where
       (λ v g q r.
       let w : ℕ = word (s .table) v in
       let o = and-both (isHeld (s .table) d v) _ (q .1) in
-      let own = and-both (leb (wordOf d 0) w) (leb w (wordOf d 4095)) (o .0) in
+      let own = and-both (leb (wordOf d 0) w) (leb w (wordOf d lastPage)) (o .0) in
       let low = leb-true (wordOf d 0) w (own .0) in
-      let high = leb-true w (wordOf d 4095) (own .1) in
+      let high = leb-true w (wordOf d lastPage) (own .1) in
       record {
         from-frame = q .0;
         to-frame = r .below;
@@ -138,7 +139,7 @@ module _ (s : State) (d c : ℕ) (coloured : 0 < s .board .colours) where
   from-to a b i j e = true≢false (sym (j .inside) ∙ rw (← e) (i .outside))
 
   -- two of them have no frame in common
-  apart-each : (m : Move) (ms : List Move) → Each (Lower m) ms → Each (Other m) ms → Leads s d c m → Each (Leads s d c) ms → Each (Apart m) ms
+  apart-each : (m : Move) (ms : List Move) → EachMove (Lower m) ms → EachMove (Other m) ms → Leads s d c m → EachMove (Leads s d c) ms → EachMove (Apart m) ms
   apart-each m [] rise other i all = tt
   apart-each m (a ∷ ms) rise other i all = (
     record {
@@ -150,7 +151,7 @@ module _ (s : State) (d c : ℕ) (coloured : 0 < s .board .colours) where
     apart-each m ms (rise .1) (other .1) i (all .1),
   )
 
-  apart-all : (ms : List Move) → Rising ms → Sorted Other ms → Each (Leads s d c) ms → Sorted Apart ms
+  apart-all : (ms : List Move) → Rising ms → Sorted Other ms → EachMove (Leads s d c) ms → Sorted Apart ms
   apart-all [] rise other all = tt
   apart-all (m ∷ ms) rise other all = (apart-each m ms (rise .0) (other .0) (all .0) (all .1), apart-all ms (rise .1) (other .1) (all .1))
 

@@ -6,12 +6,12 @@ use mathlib.Core.List.{List, [], _∷_, List·Permᴰ, List·Permᴰ·trans, Per
 use mathlib.Core.Path.{_≡_, refl, ap, _∙_}
 use lib.ListN.{length, take, drop}
 use lib.Seq.{take-at, drop-at}
-use Rattle.lists.proofs.Split.{cases}
+use Rattle.lists.proofs.CaseSplits.{cases}
 use Rattle.refusal.specs.Reply.{Reply, Answers, Refuses, Test, unless}
 use Rattle.calls.specs.Table.{State, framesWith, isStray, strays}
-use Rattle.calls.specs.Choices.{choices}
+use Rattle.calls.specs.FrameChoice.{choices}
 use Rattle.calls.specs.Calls.{Move, Done, Moved, settle, called, pairs, recolour, triples, listed}
-use Rattle.calls.proofs.Recoloured.{Recoloured, recoloured}
+use Rattle.calls.proofs.RecolouringDone.{Recoloured, recoloured}
 use Rattle.calls.proofs.Moves.{Sorted, Rising, pair-count, pair-rising}
 use Rattle.calls.proofs.PageOrder.{Before, ascending, each-once, order-count, one-order}
 

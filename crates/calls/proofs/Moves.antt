@@ -7,23 +7,23 @@ use mathlib.Core.List.{List, [], _∷_}
 use mathlib.Core.Path.{_≡_, refl, ap}
 use lib.ListN.{length}
 use Rattle.lists.specs.Range.{from, keep}
-use Rattle.lists.proofs.Split.{cases}
+use Rattle.lists.proofs.CaseSplits.{cases}
 use Rattle.lists.proofs.Members as members
-use Rattle.lists.proofs.Filter as filter
+use Rattle.lists.proofs.FilteredRange as filter
 use Rattle.calls.specs.Table.{word, pageFor}
 use Rattle.calls.specs.Calls.{Move, pairUp}
 
-abbrev pub Each : (Move → Type 0) → List Move → Type 0
-Each P [] = Unit {0}
-Each P (m ∷ ms) = P m × Each P ms
+abbrev pub EachMove : (Move → Type 0) → List Move → Type 0
+EachMove P [] = Unit {0}
+EachMove P (m ∷ ms) = P m × EachMove P ms
 
 abbrev pub Sorted : (Move → Move → Type 0) → List Move → Type 0
 Sorted R [] = Unit {0}
-Sorted R (m ∷ ms) = Each (R m) ms × Sorted R ms
+Sorted R (m ∷ ms) = EachMove (R m) ms × Sorted R ms
 
-pub each-map : {P Q : Move → Type 0} → ((m : Move) → P m → Q m) → (ms : List Move) → Each P ms → Each Q ms
-each-map f [] h = tt
-each-map f (m ∷ ms) h = (f m (h .0), each-map f ms (h .1))
+pub each-move-map : {P Q : Move → Type 0} → ((m : Move) → P m → Q m) → (ms : List Move) → EachMove P ms → EachMove Q ms
+each-move-map f [] h = tt
+each-move-map f (m ∷ ms) h = (f m (h .0), each-move-map f ms (h .1))
 
 -- by old frame
 abbrev pub Lower : Move → Move → Type 0
@@ -42,7 +42,7 @@ pair-count d t (v ∷ vs) (g ∷ gs) h = ap suc (pair-count d t vs gs (omega (ar
 -- what a move has by its old frame
 pub pair-each : (d : ℕ) (t : List ℕ) (P : Move → Type 0) (Q : ℕ → Type 0)
     → ((v g : ℕ) → Q v → P (record { page = pageFor d (word t v); source = v; target = g }))
-    → (vs gs : List ℕ) → members.Each Q vs → Each P (pairUp d t vs gs)
+    → (vs gs : List ℕ) → members.Each Q vs → EachMove P (pairUp d t vs gs)
 unfolding pairUp
 pair-each d t P Q f [] gs h = tt
 pair-each d t P Q f (v ∷ vs) [] h = tt
@@ -51,7 +51,7 @@ pair-each d t P Q f (v ∷ vs) (g ∷ gs) h = (f v g (h .0), pair-each d t P Q f
 -- and by both its frames
 pub pair-both : (d : ℕ) (t : List ℕ) (P : Move → Type 0) (Q R : ℕ → Type 0)
     → ((v g : ℕ) → Q v → R g → P (record { page = pageFor d (word t v); source = v; target = g }))
-    → (vs gs : List ℕ) → members.Each Q vs → members.Each R gs → Each P (pairUp d t vs gs)
+    → (vs gs : List ℕ) → members.Each Q vs → members.Each R gs → EachMove P (pairUp d t vs gs)
 unfolding pairUp
 pair-both d t P Q R f [] gs h k = tt
 pair-both d t P Q R f (v ∷ vs) [] h k = tt

@@ -15,10 +15,10 @@ use Rattle.refusal.proofs.Order.{passed-earlier, passed-later}
 use Rattle.colours.proofs.Ranges.{count-range}
 use Rattle.board.specs.Tests.{activeSet, quota}
 use Rattle.calls.specs.Table.{State, wordOf, framesHeld, frees, mappedTo}
-use Rattle.calls.specs.Choices.{choices}
+use Rattle.calls.specs.FrameChoice.{choices}
 use Rattle.calls.specs.Calls.{Done, Unmapped, New, settle, pageTests, only, lookAnswer, look, faultDone, atQuota, faultTests, fault}
-use Rattle.calls.proofs.Settled.{settled-answers, ten-first, ten-passed, ten-accepted}
-use Rattle.calls.proofs.Choice.{only-choice, First, first}
+use Rattle.calls.proofs.CallTests.{settled-answers, ten-first, ten-passed, ten-accepted}
+use Rattle.calls.proofs.ChoiceLaws.{only-choice, First, first}
 
 -- the page has no frame, so that 28 and 12 have judged
 judged : (s : State) (d w f : ℕ) (ms gs : List ℕ) → faultDone s w ms gs .answer ≡ New f → (isEmpty ms && atQuota s d) ≡ false → (isEmpty ms && isEmpty gs) ≡ false

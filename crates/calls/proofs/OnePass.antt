@@ -10,26 +10,26 @@ use lib.Dec.{eqb, ltb, leb}
 use lib.Bits.{bitAnd, and-le-r}
 use lib.ListN.{length, length-append}
 use borrow.Author.Tests.{lt-ltb, le-ltb, eqb-true, not-false}
-use Rattle.lists.specs.Range.{upto, keep, any, lowest}
-use Rattle.lists.proofs.Split.{cases, below-or-not, neither}
+use Rattle.lists.specs.Range.{upto, keep, anyOf, lowest}
+use Rattle.lists.proofs.CaseSplits.{cases, below-or-not, neither}
 use Rattle.lists.proofs.Members.{member-has}
-use Rattle.lists.proofs.Found.{kept-found, kept-missed}
+use Rattle.lists.proofs.Searches.{kept-found, kept-missed}
 use Rattle.refusal.specs.Reply.{Answers, Refuses, unless, passes}
 use Rattle.colours.specs.Cache.{isColourCount}
 use Rattle.colours.proofs.Ranges.{count-range, colour-set}
 use Rattle.board.specs.declared.Board.{Board}
 use Rattle.board.specs.Tests.{grant, activeSet, quota}
-use Rattle.board.proofs.Passed.{Accepted, quotas-split, quota-range}
-use Rattle.kept.specs.declared.Kept.{Kept}
-use Rattle.kept.specs.Kept.{isOwn, zeros, Within, countAll, noteAll, start, soFar, found, numbers}
-use Rattle.kept.proofs.Closed.{zeros-length, zeros-within, take-append, has-come, not-come, sound}
+use Rattle.board.proofs.PassedTests.{CallAccepted, quotas-split, quota-range}
+use Rattle.tally.specs.declared.Tally.{Tally}
+use Rattle.tally.specs.Tally.{isOwn, zeros, LanesAtMost, countAll, noteAll, start, soFar, found, tallyNumbers}
+use Rattle.tally.proofs.ClosedForm.{zeros-length, zeros-within, take-append, has-come, not-come, sound}
 use Rattle.calls.specs.Table.{State, stateOf, wordOf, hasWord, isFree, isHeld, framesWith, mappedTo}
-use Rattle.calls.specs.Choices.{nextFrame, choices}
+use Rattle.calls.specs.FrameChoice.{nextFrame, choices}
 use Rattle.calls.specs.Calls.{Outcome, Old, New, settle, pageTests, written, faultDone, atQuota, faultTests, fault}
 use Rattle.calls.specs.OnePass.{after, frameFor, atQuotaBy, answerOf, takerOf, answer, taker, withWord, allNumbers}
-use Rattle.calls.proofs.Settled.{ten-passed, ten-accepted}
-use Rattle.calls.proofs.Choice.{next-some, next-first, next-none}
-use Rattle.calls.proofs.Lanes.{all-held, frame-is}
+use Rattle.calls.proofs.CallTests.{ten-passed, ten-accepted}
+use Rattle.calls.proofs.ChoiceLaws.{next-some, next-first, next-none}
+use Rattle.calls.proofs.ColourLanes.{all-held, frame-is}
 
 module _ (b : Board) (d p : ℕ) (t : List ℕ) (ok : passes (pageTests b (length t) d p) ≡ true) where
   abbrev s : State
@@ -38,7 +38,7 @@ module _ (b : Board) (d p : ℕ) (t : List ℕ) (ok : passes (pageTests b (lengt
   abbrev w : ℕ
   w = wordOf d p
 
-  fine : Accepted b (length t) d
+  fine : CallAccepted b (length t) d
   fine = ten-accepted b (length t) d p ok .0
 
   coloured : 0 < b .colours
@@ -68,11 +68,11 @@ module _ (b : Board) (d p : ℕ) (t : List ℕ) (ok : passes (pageTests b (lengt
       ∙ ap faulted mapped-is
 
   -- the fault's outcome, by what is kept
-  abbrev given : Kept → Outcome
+  abbrev given : Tally → Outcome
   given k = record { reply = answerOf b d k; moves = []; next = stateOf b (withWord (b .frames) (takerOf b d k) w t) }
 
   -- the page has a frame
-  module _ (k : Kept) where
+  module _ (k : Tally) where
     given-old : 0 < k .mapped → given k ≡ record { reply = Answers (Old (k .mapped - 1)); moves = []; next = s }
     unfolding answerOf takerOf withWord
     given-old l = simp (lt-ltb 0 (k .mapped) l, le-ltb (b .frames) (b .frames) (omega arith))
@@ -114,10 +114,10 @@ module _ (b : Board) (d p : ℕ) (t : List ℕ) (ok : passes (pageTests b (lengt
   none-is h below l = unmapped h ∙ rw (below, next-none s d (activeSet b d) coloured l) refl
 
   -- all words taken in
-  abbrev pub end : Kept
+  abbrev pub end : Tally
   end = after d p t
 
-  abbrev pub lanes : Kept
+  abbrev pub lanes : Tally
   lanes = soFar w (wordOf d 0) (countAll (isOwn (wordOf d 0)) zeros 0 t) (noteAll zeros 0 t) (0 + length t)
 
   end-come : lowest holds (length t) < length t → end ≡ found w (wordOf d 0) (0 + lowest holds (length t) + 1)
@@ -133,7 +133,7 @@ module _ (b : Board) (d p : ℕ) (t : List ℕ) (ok : passes (pageTests b (lengt
   end-lanes none =
       let low : ℕ = lowest holds (length t) in
       below-or-not low (length t)
-      (λ h. absurd (lt-irrefl 0 (omega (arith, none, ap (λ (k : Kept). k .mapped) (end-come h)))))
+      (λ h. absurd (lt-irrefl 0 (omega (arith, none, ap (λ (k : Tally). k .mapped) (end-come h)))))
       end-passed
 
   -- the lanes give the frame that the domain takes
@@ -198,11 +198,11 @@ end-below d p xs =
     omega (arith, r .mapped-below)
 
 -- Lists of numbers that fit in 16 bits
-over-either : (xs ys : List ℕ) → any (ltb 65535) xs ≡ false → any (ltb 65535) ys ≡ false → any (ltb 65535) (xs ++ ys) ≡ false
+over-either : (xs ys : List ℕ) → anyOf (ltb 65535) xs ≡ false → anyOf (ltb 65535) ys ≡ false → anyOf (ltb 65535) (xs ++ ys) ≡ false
 over-either [] ys e h = h
-over-either (x ∷ xs) ys e h = let r = neither (ltb 65535 x) (any (ltb 65535) xs) e in rw (r .0) (over-either xs ys (r .1) h)
+over-either (x ∷ xs) ys e h = let r = neither (ltb 65535 x) (anyOf (ltb 65535) xs) e in rw (r .0) (over-either xs ys (r .1) h)
 
-over-lanes : (m : ℕ) (l : List ℕ) → m ≤ 65535 → Within m l → any (ltb 65535) l ≡ false
+over-lanes : (m : ℕ) (l : List ℕ) → m ≤ 65535 → LanesAtMost m l → anyOf (ltb 65535) l ≡ false
 over-lanes m [] small h = refl
 over-lanes m (x ∷ xs) small h = rw (le-ltb 65535 x (omega (arith, h 0))) (over-lanes m xs small (λ i. h (suc i)))
 
@@ -221,11 +221,11 @@ module _ (b : Board) (d p words : ℕ) (ok : passes (pageTests b words d p) ≡ 
       omega (arith, set .below, part, and-le-r (activeSet b d) (grant b d), sixteen-bits (b .colours) (a .passed .count))
 
   pub few-numbers :
-      (xs bs : List ℕ) → length xs ≤ words → length bs ≤ 16 → any (ltb 65535) bs ≡ false
-      → (length (allNumbers b d (after d p xs) bs) ≤ 64) × (any (ltb 65535) (allNumbers b d (after d p xs) bs) ≡ false)
-  unfolding allNumbers numbers after start
+      (xs bs : List ℕ) → length xs ≤ words → length bs ≤ 16 → anyOf (ltb 65535) bs ≡ false
+      → (length (allNumbers b d (after d p xs) bs) ≤ 64) × (anyOf (ltb 65535) (allNumbers b d (after d p xs) bs) ≡ false)
+  unfolding allNumbers tallyNumbers after start
   few-numbers xs bs xl bl small =
-      let k : Kept = after d p xs in
+      let k : Tally = after d p xs in
       let a = ten-accepted b words d p ok in
       let r = sound (wordOf d p) (wordOf d 0) 0 xs zeros zeros zeros-length zeros-length (zeros-within 0) (zeros-within 0) in
       let m : ℕ = 0 + length xs in

@@ -8,17 +8,18 @@ use lib.Dec.{eqb}
 use lib.ListN.{length}
 use lib.Seq.{getD-set-same, getD-set-other}
 use borrow.Author.Tests.{eqb-true, eqb-false, ltb-false}
-use Rattle.lists.proofs.Split.{cases, neither}
+use Rattle.limits.specs.Limits.{mostQuota}
+use Rattle.lists.proofs.CaseSplits.{cases, neither}
 use Rattle.refusal.specs.Reply.{Answers, Test, unless, passes}
 use Rattle.refusal.proofs.Replies.{passed-first, passed-answers}
 use Rattle.refusal.proofs.Order.{passed-earlier, passed-later, passed-both}
 use Rattle.board.specs.declared.Board.{Board}
 use Rattle.board.specs.Tests.{activeSet, quota, noQuota, badQuotas, callerTest, domainTests, boardTests, stateTests, callTests, callReply}
-use Rattle.board.proofs.Passed.{Accepted, accepted, quotas-split, quotas-join, quota-range, quota-placed, state-split, state-join}
+use Rattle.board.proofs.PassedTests.{CallAccepted, accepted, quotas-split, quotas-join, quota-range, quota-placed, state-split, state-join}
 use Rattle.calls.specs.Table.{State, stateOf, framesWith, framesHeld, frees, strays}
-use Rattle.calls.specs.Choices.{choices}
+use Rattle.calls.specs.FrameChoice.{choices}
 use Rattle.calls.specs.Calls.{Active, Quota, Done, settle, called, colours, recolour, withQuotas, withQuota, quotaTest, setQuota}
-use Rattle.calls.proofs.Settled.{settled-answers}
+use Rattle.calls.proofs.CallTests.{settled-answers}
 
 -- 2 to 7 do not look at quotas, and where 26 passes it passes with another quota that is one
 pub board-still : (b : Board) (qs : List ℕ) (words : ℕ) → boardTests (withQuotas b qs) words ≡ boardTests b words
@@ -37,7 +38,7 @@ quotas-still b d q good low fine =
     (λ o. ap noQuota (getD-set-other (b .quotas) d e q 0 (eqb-false e d o)) ∙ each e l))
 
 -- so that a call of the domain passes them again
-still-passes : (b : Board) (words d q : ℕ) → passes (callTests b words d) ≡ true → Accepted b words d → noQuota q ≡ false
+still-passes : (b : Board) (words d q : ℕ) → passes (callTests b words d) ≡ true → CallAccepted b words d → noQuota q ≡ false
     → passes (callTests (withQuota b d q) words d) ≡ true
 unfolding callTests
 still-passes b words d q ok a fine =
@@ -50,7 +51,7 @@ still-passes b words d q ok a fine =
 pub record Given (s : State) (d q n : ℕ) : Type 0 where
   pub asked : n ≡ q
   pub some : 0 < q
-  pub most : q ≤ 4096
+  pub most : q ≤ mostQuota
   pub enough : framesHeld s d ≤ q
   pub next : setQuota s d q .next ≡ stateOf (withQuota (s .board) d q) (s .table)
   pub own : quota (withQuota (s .board) d q) d ≡ q

@@ -10,15 +10,15 @@ use lib.ListN.{length, set, length-set}
 use lib.Seq.{getD-set-other}
 use borrow.Author.Tests.{not-true}
 use Rattle.lists.specs.Range.{from, keep, isEmpty, headOr}
-use Rattle.lists.proofs.Split.{cases, and-both}
+use Rattle.lists.proofs.CaseSplits.{cases, and-both}
 use Rattle.refusal.specs.Reply.{Answers}
 use Rattle.board.specs.declared.Board.{Board}
 use Rattle.calls.specs.Table.{State, stateOf, word, inSet, isHeld, isStray, framesWith, strays}
-use Rattle.calls.specs.Choices.{choices}
+use Rattle.calls.specs.FrameChoice.{choices}
 use Rattle.calls.specs.Calls.{Moved, Move, pairUp, pairs, move, recolour}
-use Rattle.calls.proofs.Choice.{First, first, some-member}
-use Rattle.calls.proofs.OneByOne.{move-by-move}
-use Rattle.calls.proofs.Recoloured.{recoloured}
+use Rattle.calls.proofs.ChoiceLaws.{First, first, some-member}
+use Rattle.calls.proofs.SuccessiveChoices.{move-by-move}
+use Rattle.calls.proofs.RecolouringDone.{recoloured}
 
 abbrev pub EachFirst : State → ℕ → ℕ → List Move → Type 0
 EachFirst s d c [] = Unit {0}

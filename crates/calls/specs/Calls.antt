@@ -1,17 +1,18 @@
 -- The calls, for every board, table and argument: reply, moves, board and table afterwards. Document 01, refusals 2 to 14; the order of the
--- moves is document 02, No. 4, the quota with refusals 26 to 28 its No. 6. The seventh call, take back, has a file of its own (TakeBack).
+-- moves is document 02, No. 4, the quota with refusals 26 to 28 its No. 6. Taking back has a file of its own (TakeBack).
 use Prim.Native.Nat.{ℕ, _*_}
 use mathlib.Core.Bool.{Bool, _&&_, _||_}
 use mathlib.Core.List.{List, [], _∷_, _++_}
 use lib.Dec.{eqb, ltb, leb}
 use lib.ListN.{length, drop, set}
-use Rattle.lists.specs.Choice.{if_then_else_}
+use Rattle.limits.specs.Limits.{lastPage}
+use Rattle.lists.specs.IfThenElse.{if_then_else_}
 use Rattle.lists.specs.Range.{headOr, isEmpty}
 use Rattle.refusal.specs.Reply.{Reply, Answers, Refuses, Test, test, unless}
 use Rattle.board.specs.declared.Board.{Board}
 use Rattle.board.specs.Tests.{grant, activeSet, quota, emptyOrOutside, noQuota, callTests}
 use Rattle.calls.specs.Table.{State, word, wordOf, pageFor, mappedTo, framesHeld, strays}
-use Rattle.calls.specs.Choices.{choices}
+use Rattle.calls.specs.FrameChoice.{choices}
 
 -- what a call answers
 pub data Answer : Type 0 where
@@ -56,9 +57,9 @@ settle s (Refuses n r) = record { reply = Refuses n r; moves = []; next = s }
 unfoldable pub called : State → ℕ → List Test → Done → Outcome
 called s d own done = settle s (unless (callTests (s .board) (length (s .table)) d ++ own) done)
 
--- 10: a page exceeds 4,095
+-- 10: a page exceeds the last one
 abbrev pub pageTest : ℕ → Test
-pageTest p = test 10 (ltb 4095 p)
+pageTest p = test 10 (ltb lastPage p)
 
 -- of a call that names a page: 2 to 7, 26 and 8, then 10
 abbrev pub pageTests : Board → ℕ → ℕ → ℕ → List Test
@@ -125,14 +126,14 @@ abbrev pub earlier : Move → Move → Bool
 earlier a b = ltb (a .page) (b .page) || (eqb (a .page) (b .page) && ltb (a .source) (b .source))
 
 -- a move goes in behind the moves that are earlier
-unfoldable pub insert : Move → List Move → List Move
-insert m [] = m ∷ []
-insert m (a ∷ ms) = if earlier a m then a ∷ insert m ms else m ∷ a ∷ ms
+unfoldable pub insertMove : Move → List Move → List Move
+insertMove m [] = m ∷ []
+insertMove m (a ∷ ms) = if earlier a m then a ∷ insertMove m ms else m ∷ a ∷ ms
 
 -- moves in that order
 unfoldable pub inOrder : List Move → List Move
 inOrder [] = []
-inOrder (m ∷ ms) = insert m (inOrder ms)
+inOrder (m ∷ ms) = insertMove m (inOrder ms)
 
 -- the word goes to the new frame, and the old one becomes free
 abbrev pub move : List ℕ → Move → List ℕ

@@ -1,6 +1,6 @@
--- What the seven calls mean, what they write to a move list, and what a fault answers by the numbers that it keeps.
+-- What the calls mean, what they write to a move list, and what a fault answers by the numbers that it keeps.
 pub mod Table
-pub mod Choices
+pub mod FrameChoice
 pub mod Calls
 pub mod TakeBack
 pub mod OnePass

@@ -2,9 +2,10 @@
 use Prim.Native.Nat.{ℕ, _+_, _-_, _*_}
 use mathlib.Core.Bool.{Bool, not, _&&_}
 use mathlib.Core.List.{List}
-use lib.Dec.{eqb, leb}
+use lib.Dec.{leb}
 use lib.ListN.{length, getD}
-use Rattle.lists.specs.Range.{upto, keep}
+use Rattle.limits.specs.Limits.{pages, lastPage}
+use Rattle.lists.specs.Range.{upto, keep, isAt}
 use Rattle.colours.specs.Cache.{colourOf}
 use Rattle.colours.specs.Sets.{has}
 use Rattle.board.specs.declared.Board.{Board}
@@ -23,11 +24,11 @@ word t f = getD t f 0
 
 -- held by domain d for page p
 abbrev pub wordOf : ℕ → ℕ → ℕ
-wordOf d p = 1 + 4096 * d + p
+wordOf d p = 1 + pages * d + p
 
--- held by domain d, for one of its pages 0 to 4,095
+-- held by domain d, for one of its pages
 abbrev pub isOf : ℕ → ℕ → Bool
-isOf d w = leb (wordOf d 0) w && leb w (wordOf d 4095)
+isOf d w = leb (wordOf d 0) w && leb w (wordOf d lastPage)
 
 -- the page for which domain d holds it
 abbrev pub pageFor : ℕ → ℕ → ℕ
@@ -39,7 +40,7 @@ inSet n c f = has c (colourOf n f)
 
 -- it has word w,
 abbrev pub hasWord : List ℕ → ℕ → ℕ → Bool
-hasWord t w f = eqb (word t f) w
+hasWord t w f = isAt t w f
 
 -- it is free, with a colour in set c,
 abbrev pub isFree : List ℕ → ℕ → ℕ → ℕ → Bool

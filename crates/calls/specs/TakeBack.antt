@@ -5,7 +5,8 @@ use mathlib.Core.Bool.{Bool, false, not, _||_}
 use mathlib.Core.List.{List, [], _∷_}
 use lib.Dec.{eqb, ltb, leb}
 use lib.ListN.{length}
-use Rattle.lists.specs.Range.{any, isEmpty}
+use Rattle.limits.specs.Limits.{lastPage}
+use Rattle.lists.specs.Range.{anyOf, isEmpty}
 use Rattle.refusal.specs.Reply.{Test, test}
 use Rattle.board.specs.Tests.{grant, emptyOrOutside}
 use Rattle.calls.specs.Table.{State, wordOf, hasWord, isFree, strays}
@@ -31,13 +32,13 @@ framesNamed (m ∷ ms) = m .source ∷ m .target ∷ framesNamed ms
 -- whether some number stands in two places of a list
 unfoldable pub twice : List ℕ → Bool
 twice [] = false
-twice (f ∷ fs) = any (eqb f) fs || twice fs
+twice (f ∷ fs) = anyOf (eqb f) fs || twice fs
 
 -- What 31 has against a triple, on table t with n colours and so many frames: a page above 4,095, a frame at or above F, a new frame without the domain's
 -- word for the page, or an old one that is not a free frame of the former set.
 abbrev pub wrongTriple : List ℕ → ℕ → ℕ → ℕ → ℕ → Move → Bool
 wrongTriple t n frames d c m =
-    ltb 4095 (m .page)
+    ltb lastPage (m .page)
     || leb frames (m .source)
     || leb frames (m .target)
     || not (hasWord t (wordOf d (m .page)) (m .target))

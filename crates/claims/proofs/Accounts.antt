@@ -8,8 +8,8 @@ use Rattle.colours.specs.Sets.{isColourSet, has}
 use Rattle.colours.specs.Cache.{isColourCount}
 use Rattle.board.specs.Tests.{badQuotas, domainTests, boardTests, stateTests, callTests}
 use Rattle.calls.specs.Table.{framesWith, mappedTo, frees, framesHeld, strays}
-use Rattle.calls.specs.Choices.{inColour, nextColour, nextFrame, taken, choices}
-use Rattle.calls.specs.Calls.{Unmapped, New, Freed, settle, called, look, fault, release, pairUp, insert, inOrder, moveAll, recolour, setQuota, triples}
+use Rattle.calls.specs.FrameChoice.{inColour, nextColour, nextFrame, taken, choices}
+use Rattle.calls.specs.Calls.{Unmapped, New, Freed, settle, called, look, fault, release, pairUp, insertMove, inOrder, moveAll, recolour, setQuota, triples}
 use Rattle.calls.specs.TakeBack.{moveList, anyMove, framesNamed, twice, backward, takeBack}
 use Rattle.calls.proofs.NewFrame.{only-frame}
 use Rattle.isolation.specs.DomainRule.{Recolour, run, own, answers}
@@ -24,7 +24,7 @@ logged : (answers 0 recorder served ≡ log) × (newIn log ≡ 3) × (freedIn lo
 unfolding
     from keep lowestFrom isFewest fewest unless each isColourSet has isColourCount badQuotas domainTests boardTests stateTests callTests
     framesWith mappedTo frees framesHeld strays inColour nextColour nextFrame taken choices
-    settle called fault release pairUp insert inOrder moveAll recolour setQuota triples moveList anyMove framesNamed twice backward takeBack
+    settle called fault release pairUp insertMove inOrder moveAll recolour setQuota triples moveList anyMove framesNamed twice backward takeBack
     howMany answers
 logged = (refl, refl, refl, refl)
 
@@ -37,7 +37,7 @@ released :
 unfolding
     from keep lowestFrom isFewest fewest unless each isColourSet has isColourCount badQuotas domainTests boardTests stateTests callTests
     framesWith mappedTo frees framesHeld strays inColour nextColour nextFrame taken choices
-    settle called look fault release pairUp insert inOrder moveAll recolour setQuota run own
+    settle called look fault release pairUp insertMove inOrder moveAll recolour setQuota run own
 released = (refl, refl, refl, refl)
 
 got-back : fault (run (release before 0 9 .next) others) 0 2 .reply ≡ Answers (New 0)
@@ -49,7 +49,7 @@ own-call-between : fault (run (release before 0 9 .next) (Recolour 0 0x3 [] ∷ 
 unfolding
     from keep lowestFrom isFewest fewest unless each isColourSet has isColourCount badQuotas domainTests boardTests stateTests callTests
     framesWith mappedTo frees framesHeld strays inColour nextColour nextFrame taken choices
-    settle called fault release pairUp insert inOrder moveAll recolour run
+    settle called fault release pairUp insertMove inOrder moveAll recolour run
 own-call-between = refl
 
 another-free : (frees two-free 0xC ≡ 2 ∷ 7 ∷ []) × (fault two-free 1 4 .reply ≡ Answers (New 2))

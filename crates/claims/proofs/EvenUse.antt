@@ -7,18 +7,18 @@ use mathlib.Core.Path.{_≡_, refl, sym, _∙_}
 use lib.Dec.{eqb, ltb, leb}
 use lib.ListN.{replicate, getD-replicate}
 use borrow.Author.Tests.{eqb-true, ltb-true, not-true, not-false}
-use Rattle.lists.specs.Range.{from, upto, keep, any, lowestFrom, isFewest, fewest}
-use Rattle.lists.proofs.Split.{and-both}
-use Rattle.lists.proofs.Found.{any-none}
+use Rattle.lists.specs.Range.{from, upto, keep, anyOf, lowestFrom, isFewest, fewest}
+use Rattle.lists.proofs.CaseSplits.{and-both}
+use Rattle.lists.proofs.Searches.{any-none}
 use Rattle.refusal.specs.Reply.{each, unless, passes}
 use Rattle.colours.specs.Sets.{isColourSet, has, consecutive}
 use Rattle.colours.specs.Cache.{isColourCount}
 use Rattle.colours.proofs.Theorems.{consecutive-colours}
 use Rattle.board.specs.Tests.{badQuotas, domainTests, boardTests, stateTests, callTests}
 use Rattle.calls.specs.Table.{State, stateOf, framesWith, mappedTo, frees, framesHeld}
-use Rattle.calls.specs.Choices.{inColour, nextColour, nextFrame, taken, choices}
+use Rattle.calls.specs.FrameChoice.{inColour, nextColour, nextFrame, taken, choices}
 use Rattle.calls.specs.Calls.{Move, settle, called, fault, release, pairs}
-use Rattle.calls.proofs.Choice.{First}
+use Rattle.calls.proofs.ChoiceLaws.{First}
 use Rattle.calls.proofs.NewFrame.{new-frame}
 use Rattle.calls.proofs.Targets.{EachFirst, each-target-first}
 use Rattle.isolation.specs.DomainRule.{Call, outcome, run, Accepted, Empty}
@@ -60,7 +60,7 @@ unfolding
     framesWith mappedTo frees framesHeld inColour nextColour nextFrame taken choices settle called fault release run
 leaves = refl
 
-two-of-each : any (λ (x : ℕ). not (eqb (heldIn left 0 x) 2)) (upto 6) ≡ false
+two-of-each : anyOf (λ (x : ℕ). not (eqb (heldIn left 0 x) 2)) (upto 6) ≡ false
 unfolding from keep inColour
 two-of-each = refl
 

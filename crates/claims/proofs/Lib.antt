@@ -8,4 +8,4 @@ pub mod TakingBack
 pub mod Accounts
 pub mod Reload
 pub mod Rounds
-pub mod Proved
+pub mod ProvedClaims

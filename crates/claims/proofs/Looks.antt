@@ -13,8 +13,8 @@ use Rattle.colours.specs.Sets.{isColourSet, has}
 use Rattle.colours.specs.Cache.{isColourCount}
 use Rattle.board.specs.Tests.{badQuotas, domainTests, boardTests, stateTests, callTests}
 use Rattle.calls.specs.Table.{State, stateOf, framesWith, mappedTo, frees, framesHeld, strays}
-use Rattle.calls.specs.Choices.{inColour, nextColour, nextFrame, taken, choices}
-use Rattle.calls.specs.Calls.{Answer, settle, called, look, fault, release, colours, pairUp, insert, inOrder, moveAll, recolour, setQuota}
+use Rattle.calls.specs.FrameChoice.{inColour, nextColour, nextFrame, taken, choices}
+use Rattle.calls.specs.Calls.{Answer, settle, called, look, fault, release, colours, pairUp, insertMove, inOrder, moveAll, recolour, setQuota}
 use Rattle.isolation.specs.DomainRule.{Call, run, own, Accepted, Empty}
 use Rattle.isolation.proofs.Theorems.{the-domain-rule}
 use Rattle.examples.specs.Example.{sameList, numbers}
@@ -46,7 +46,7 @@ replays :
 unfolding
     from keep lowestFrom isFewest fewest unless each isColourSet has isColourCount badQuotas domainTests boardTests stateTests callTests
     framesWith mappedTo frees framesHeld strays inColour nextColour nextFrame taken choices
-    settle called look fault release colours pairUp insert inOrder moveAll recolour setQuota run own says sameList numbers
+    settle called look fault release colours pairUp insertMove inOrder moveAll recolour setQuota run own says sameList numbers
 replays = (
   λ same. false≢true (ap (says (2 ∷ [])) (same 9 (omega arith))),
   refl,

@@ -2,13 +2,13 @@
 use mathlib.Core.List.{List, [], _∷_}
 use mathlib.Core.Path.{_≡_, refl}
 use Rattle.calls.specs.Calls.{Move}
-use Rattle.calls.proofs.Moves.{Each, Sorted}
+use Rattle.calls.proofs.Moves.{EachMove, Sorted}
 use Rattle.calls.proofs.MoveList.{in-page-order, moved-once, move-count, only-list}
 use Rattle.calls.proofs.AnyOrder.{table-by-list}
 use Rattle.isolation.proofs.MoveLists.{triples-told, rest-stays, refused-stays}
 use Rattle.claims.specs.PageOrder.{Before, BeforeAll, Ascending, PageOrderClaims}
 
-all-is : (m : Move) (ms : List Move) → Each (Before m) ms ≡ BeforeAll m ms
+all-is : (m : Move) (ms : List Move) → EachMove (Before m) ms ≡ BeforeAll m ms
 all-is m [] = refl
 all-is m (a ∷ ms) = rw (all-is m ms)
 

@@ -9,7 +9,7 @@ use Rattle.colours.specs.Cache.{isColourCount}
 use Rattle.board.specs.declared.Board.{Board}
 use Rattle.board.specs.Tests.{quota, badQuotas, domainTests, boardTests, stateTests, callTests}
 use Rattle.calls.specs.Table.{State, framesWith, mappedTo, frees, framesHeld}
-use Rattle.calls.specs.Choices.{inColour, nextColour, nextFrame, taken, choices}
+use Rattle.calls.specs.FrameChoice.{inColour, nextColour, nextFrame, taken, choices}
 use Rattle.calls.specs.Calls.{Quota, settle, called, fault, colours, withQuotas, setQuota}
 use Rattle.calls.proofs.NewFrame.{new-frame}
 use Rattle.calls.proofs.Quotas.{given, recolour-goes-on}
@@ -17,7 +17,7 @@ use Rattle.plan.specs.Tests.{rowTests, planTests}
 use Rattle.admission.specs.Admission.{admissionReply}
 use Rattle.isolation.specs.DomainRule.{run}
 use Rattle.isolation.proofs.Quotas.{never-above-quota, others-quota-unseen}
-use Rattle.isolation.proofs.Room.{room-to-recolour}
+use Rattle.isolation.proofs.RecolouringRoom.{room-to-recolour}
 use Rattle.examples.specs.Table.{recorder, allotted}
 use Rattle.claims.specs.Quotas.{QuotaClaims}
 

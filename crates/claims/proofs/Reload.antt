@@ -9,9 +9,9 @@ use lib.Bits.{bitAnd, bitOr, and-step, or-step, and-shr, or-shr, and-le-l}
 use lib.Dec.{eqb}
 use lib.ListN.{length}
 use borrow.Author.Tests.{eqb-true, eqb-false}
-use Rattle.lists.specs.Range.{from, upto, keep, any}
-use Rattle.lists.proofs.Split.{cases}
-use Rattle.lists.proofs.Filter.{same-kept}
+use Rattle.lists.specs.Range.{from, upto, keep, anyOf}
+use Rattle.lists.proofs.CaseSplits.{cases}
+use Rattle.lists.proofs.FilteredRange.{same-kept}
 use Rattle.colours.specs.Sets.{has, coloursBelow, placeOf}
 use Rattle.colours.proofs.Bits.{size-ones}
 use Rattle.rows.specs.RowWords.{colourSet}
@@ -38,7 +38,7 @@ has-or a b c =
     (λ e. let same : bit (bitOr a b) c ≡ bit b c = omega (arith, most, eqb-false (bit a c) 1 e) in rw (e, same) refl)
 
 -- the union of n rows from row k on
-has-held : (tasks : List ℕ) (c n k : ℕ) → has (heldFrom tasks k n) c ≡ any (λ (m : ℕ). has (colourSet tasks m) c) (from k n)
+has-held : (tasks : List ℕ) (c n k : ℕ) → has (heldFrom tasks k n) c ≡ anyOf (λ (m : ℕ). has (colourSet tasks m) c) (from k n)
 unfolding heldFrom from has
 has-held tasks c zero k = rw (zero-div (2 ^ c)) refl
 has-held tasks c (suc n) k =
@@ -47,7 +47,7 @@ has-held tasks c (suc n) k =
 pub reloaded-counts :
     (n : ℕ) (tasks : List ℕ) (i j : ℕ) → colourSet tasks j < 2 ^ n
     → reloaded tasks i j
-    ≡ length (keep (λ (c : ℕ). has (colourSet tasks j) c && any (λ (k : ℕ). has (colourSet tasks k) c) (from (suc j) (i - j))) (upto n))
+    ≡ length (keep (λ (c : ℕ). has (colourSet tasks j) c && anyOf (λ (k : ℕ). has (colourSet tasks k) c) (from (suc j) (i - j))) (upto n))
 unfolding placeOf coloursBelow
 reloaded-counts n tasks i j h =
     let own : ℕ = colourSet tasks j in
@@ -55,5 +55,5 @@ reloaded-counts n tasks i j h =
     reloaded-is tasks i j
     ∙ sym (size-ones n (bitAnd own held) (lt-of-le-of-lt (and-le-l own held) h))
     ∙ ap length
-    (same-kept (has (bitAnd own held)) (λ (c : ℕ). has own c && any (λ (k : ℕ). has (colourSet tasks k) c) (from (suc j) (i - j))) n
+    (same-kept (has (bitAnd own held)) (λ (c : ℕ). has own c && anyOf (λ (k : ℕ). has (colourSet tasks k) c) (from (suc j) (i - j))) n
     (λ c l. has-and own held c ∙ ap (λ (b : Bool). has own c && b) (has-held tasks c (i - j) (suc j))))

@@ -13,17 +13,17 @@ use Rattle.supply.specs.Supply.{supply, firstSupply, Budget}
 use Rattle.board.specs.declared.Board.{Board}
 use Rattle.board.specs.Tests.{domainTests, boardTests, boardReply}
 use Rattle.rows.specs.RowWords.{cost}
-use Rattle.rows.specs.Reload.{heldFrom, reloadedSet, reloaded, charge}
+use Rattle.rows.specs.Reload.{heldFrom, reloadedSet, reloaded, arrivalCharge}
 use Rattle.rows.specs.Part.{partStart, rowsFrom, partOf}
-use Rattle.rows.specs.Valid.{Plan}
+use Rattle.rows.specs.ValidRows.{Plan}
 use Rattle.plan.specs.Tests.{rowTests, planTests, planReply}
 use Rattle.plan.proofs.Validity.{valid}
 use Rattle.times.specs.Times.{arrivals, need, taskNeed, vcpuCharge, vcpuNeed}
 use Rattle.times.specs.Rounds.{rounds, roundsInPart, taskRounds, vcpuRounds, roundsBound, taskBound, vcpuBound}
 use Rattle.times.proofs.Search.{Searchable}
 use Rattle.times.proofs.Bounds.{task-searchable, vcpu-searchable}
-use Rattle.times.proofs.Counted.{as-many-as-microseconds, climb, goes-on}
-use Rattle.times.proofs.Fit.{rounds-over-part}
+use Rattle.times.proofs.CountedRounds.{as-many-as-microseconds, climb, goes-on}
+use Rattle.times.proofs.FitRows.{rounds-over-part}
 use Rattle.examples.specs.Table.{planned, task}
 use Rattle.claims.specs.Rounds.{whole, crowded, tasks-behind, vcpus-behind, Passes}
 
@@ -71,7 +71,7 @@ a-million-vcpu-rounds =
 pub a-million-task-rounds : taskRounds 0 whole (tasks-behind 1) 1 ≡ 1000000
 unfolding
     roundsInPart partStart partOf rowsFrom lowestFrom keep from
-    taskNeed need cost charge reloaded reloadedSet heldFrom ones onesIn
+    taskNeed need cost arrivalCharge reloaded reloadedSet heldFrom ones onesIn
 a-million-task-rounds =
     rounds-over-part 0 whole (tasks-behind 1) 1
     ∙ as-many-as-microseconds (task-searchable 1000000 1000000 0 (tasks-behind 1) 1 million (le-refl 1)) 1000000 (λ t h. first-of-whole 1000000 (1 + arrivals t 1 * 1) (omega arith) ∙ one-later t)
@@ -98,7 +98,7 @@ unfolding cost ones onesIn
 crowded-search = task-searchable 1000000 1000000 0 crowded 1 million (omega arith)
 
 crowded-first : (t : ℕ) → firstSupply 1000000 1000000 (taskNeed 0 crowded 1 t) ≡ 1000 + arrivals t 1000 * 999
-unfolding taskNeed need cost charge reloaded reloadedSet heldFrom ones onesIn
+unfolding taskNeed need cost arrivalCharge reloaded reloadedSet heldFrom ones onesIn
 crowded-first t = first-of-whole 1000000 (1000 + arrivals t 1000 * 999) (omega arith)
 
 pub crowded-rounds : taskRounds 0 whole crowded 1 ≡ 1001

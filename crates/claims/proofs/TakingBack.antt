@@ -11,16 +11,16 @@ use Rattle.colours.specs.Sets.{isColourSet, has}
 use Rattle.colours.specs.Cache.{isColourCount}
 use Rattle.board.specs.Tests.{activeSet, badQuotas, domainTests, boardTests, stateTests, callTests}
 use Rattle.calls.specs.Table.{State, framesWith, mappedTo, frees, framesHeld, strays}
-use Rattle.calls.specs.Choices.{inColour, nextColour, nextFrame, taken, choices}
-use Rattle.calls.specs.Calls.{Mapped, Moved, settle, called, look, fault, release, pairUp, insert, inOrder, moveAll, recolour, setQuota, triples}
+use Rattle.calls.specs.FrameChoice.{inColour, nextColour, nextFrame, taken, choices}
+use Rattle.calls.specs.Calls.{Mapped, Moved, settle, called, look, fault, release, pairUp, insertMove, inOrder, moveAll, recolour, setQuota, triples}
 use Rattle.calls.specs.TakeBack.{moveList, anyMove, framesNamed, twice, backward, takeBack}
-use Rattle.calls.proofs.Recoloured.{active-placed}
-use Rattle.calls.proofs.Inside as inside
-use Rattle.calls.proofs.Undone.{undone}
-use Rattle.calls.proofs.TakenBack.{took-back}
+use Rattle.calls.proofs.RecolouringDone.{active-placed}
+use Rattle.calls.proofs.FramesInside as inside
+use Rattle.calls.proofs.Undoing.{undone}
+use Rattle.calls.proofs.TakingBackDone.{took-back}
 use Rattle.isolation.specs.DomainRule.{run, own}
 use Rattle.isolation.specs.TakingBack.{wrote}
-use Rattle.isolation.proofs.InActive.{held-in-active}
+use Rattle.isolation.proofs.ActiveFrames.{held-in-active}
 use Rattle.isolation.proofs.TakingBack.{taking-back-restores, taking-back-unseen, taking-back-at-once}
 use Rattle.examples.specs.Table.{recorder, three-faults}
 use Rattle.claims.specs.TakingBack.{before, room, done, others, released, back, TakingBackClaims}
@@ -32,7 +32,7 @@ goes :
 unfolding
     from keep lowestFrom isFewest fewest unless each isColourSet has isColourCount badQuotas domainTests boardTests stateTests callTests
     framesWith mappedTo frees framesHeld strays inColour nextColour nextFrame taken choices
-    settle called look fault pairUp insert inOrder moveAll recolour setQuota triples run own
+    settle called look fault pairUp insertMove inOrder moveAll recolour setQuota triples run own
 goes = (refl, refl, refl, refl, refl)
 
 -- by the theorem, of the premises above
@@ -45,7 +45,7 @@ own-call-between : back released .reply ≡ Refuses 31 0
 unfolding
     from keep lowestFrom isFewest fewest unless each isColourSet has isColourCount badQuotas domainTests boardTests stateTests callTests
     framesWith mappedTo frees framesHeld strays inColour nextColour nextFrame taken choices
-    settle called fault release pairUp insert inOrder moveAll recolour triples moveList anyMove framesNamed twice backward takeBack run
+    settle called fault release pairUp insertMove inOrder moveAll recolour triples moveList anyMove framesNamed twice backward takeBack run
 own-call-between = refl
 
 none-outside : (s : State) (d c : ℕ) (list : List ℕ) (n : ℕ) → takeBack s d c list .reply ≡ Answers (Moved n) → strays (takeBack s d c list .next) d c ≡ []

@@ -1,4 +1,4 @@
--- All claims as one type. `proofs/Proved.antt` has its one member, so that each claim is proved as it is stated here, or the gate fails.
+-- All claims as one type. `proofs/ProvedClaims.antt` has its one member, so that each claim is proved as it is stated here, or the gate fails.
 use mathlib.Core.Bool.{true}
 use mathlib.Core.Path.{_≡_}
 use Rattle.isolation.specs.DomainRule.{DomainRule}

@@ -5,12 +5,12 @@ use mathlib.Core.Bool.{true}
 use mathlib.Core.List.{List}
 use mathlib.Core.Path.{_≡_}
 use lib.Dec.{eqb}
-use Rattle.lists.specs.Range.{any}
+use Rattle.lists.specs.Range.{anyOf}
 use Rattle.colours.specs.Cache.{colourOf, pageOf, cacheSet}
 use Rattle.colours.specs.Sets.{has}
 use Rattle.board.specs.Tests.{grant}
 use Rattle.calls.specs.Table.{State, word, isOf, inSet}
-use Rattle.calls.specs.Choices.{choices}
+use Rattle.calls.specs.FrameChoice.{choices}
 use Rattle.isolation.specs.DomainRule.{Call, run, Accepted, Empty}
 use Rattle.isolation.specs.Accounts.{OneFrameAPage, SameReserved}
 
@@ -37,7 +37,7 @@ pub record HistoryClaims : Type 0 where
   -- Of any table and any board that has a colour: a frame chosen for a set is free and has a colour of it. And of any board and table: the choice depends
   -- on the frames of the set alone. Which of them is chosen first is said in `EvenUse`.
   pub chosen-is-free :
-      (s : State) (d c f : ℕ) → 0 < s .board .colours → any (eqb f) (choices s d c) ≡ true
+      (s : State) (d c f : ℕ) → 0 < s .board .colours → anyOf (eqb f) (choices s d c) ≡ true
       → (f < s .board .frames) × (word (s .table) f ≡ 0) × (inSet (s .board .colours) c f ≡ true)
   pub choice-local :
       (s r : State) (d c : ℕ) → s .board .frames ≡ r .board .frames → s .board .colours ≡ r .board .colours

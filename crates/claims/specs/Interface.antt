@@ -8,7 +8,7 @@ use Rattle.board.specs.declared.Board.{Board}
 use Rattle.calls.specs.Calls.{withActive, withQuota, recolour}
 use Rattle.calls.specs.TakeBack.{takeBack}
 use Rattle.report.specs.Report.{textOf}
-use Rattle.marshal.specs.BoardWords.{boardOf, boardWords, wordsLeft, lent}
+use Rattle.marshal.specs.BoardWords.{boardOf, boardWords, wordsLeft, lentState}
 
 pub record InterfaceClaims : Type 0 where
   -- A board that is written back where it was read changes nothing, and the words of a board stand for it.
@@ -20,9 +20,9 @@ pub record InterfaceClaims : Type 0 where
   -- The words that a recolouring or a taking back leaves stand for the board that it leaves.
   pub words-stand :
       (ws table moves : List ℕ) (d c : ℕ)
-      → boardOf (wordsLeft (recolour (lent ws table) d c moves) ws) ≡ recolour (lent ws table) d c moves .next .board
+      → boardOf (wordsLeft (recolour (lentState ws table) d c moves) ws) ≡ recolour (lentState ws table) d c moves .next .board
   pub words-stand-again :
       (ws table moves : List ℕ) (d c : ℕ)
-      → boardOf (wordsLeft (takeBack (lent ws table) d c moves) ws) ≡ takeBack (lent ws table) d c moves .next .board
+      → boardOf (wordsLeft (takeBack (lentState ws table) d c moves) ws) ≡ takeBack (lentState ws table) d c moves .next .board
   -- The program keeps the first 2,873 bytes of its input: a longer one has the same text.
   pub first-bytes-tell : (input : List ℕ) → textOf (take 2873 input) ≡ textOf input

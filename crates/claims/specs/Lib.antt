@@ -1,4 +1,4 @@
--- The page of claims: everything that is claimed beyond the contracts of the functions, in thirteen groups, and all of them as one type.
+-- The page of claims: everything that is claimed beyond the contracts of the functions, a file for each subject, and all of them as one type.
 pub mod Colours
 pub mod Histories
 pub mod Looks

@@ -7,7 +7,7 @@ use lib.ListN.{length}
 use Rattle.supply.specs.Supply.{supply, firstSupply, Budget}
 use Rattle.rows.specs.RowWords.{vcpuPeriod, taskPeriod, deadline, colourSet, cost, taskRows}
 use Rattle.rows.specs.Reload.{reloaded}
-use Rattle.times.specs.First.{At, Late, NoLater}
+use Rattle.times.specs.FirstTime.{At, Late, NoLater}
 use Rattle.times.specs.Times.{taskNeed, timeInPart, taskTime, vcpuNeed, vcpuTime}
 
 pub record SupplyClaims : Type 0 where

@@ -10,8 +10,8 @@ use lib.Count.{ones, ones-step, onesIn}
 use lib.Pow.{field, mod-mod-pow, shr-shr, shl-exact}
 use borrow.Author.Tests.{eqb-true, eqb-false}
 use Rattle.lists.specs.Range.{from, keep}
-use Rattle.lists.proofs.Split.{cases}
-use Rattle.lists.proofs.Kept.{count, count-next, count-same}
+use Rattle.lists.proofs.CaseSplits.{cases}
+use Rattle.lists.proofs.PassingNumbers.{count, count-next, count-same}
 use Rattle.colours.specs.Sets.{has, coloursBelow, placeOf}
 
 -- of the k + 1 bits from bit i on, the lowest, and the k above it

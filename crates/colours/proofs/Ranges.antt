@@ -1,16 +1,16 @@
 -- What accepted numbers of colours and accepted sets give: the bounds that the code needs, and the colour at a place.
 use Prim.Native.Nat.{ℕ, _/_, _%_, _^_, _<_, _≤_}
-use native.Mathlib.Nat.{mod-lt, mul-le-mul-left, div-add-mod', div-lt-iff-lt-mul, one-mul, pos-of-ne-zero, lt-irrefl}
+use native.Mathlib.Nat.{mod-lt, mod-eq-of-lt, mul-le-mul-left, div-add-mod', div-lt-iff-lt-mul, one-mul, pos-of-ne-zero, lt-irrefl}
 use native.Mathlib.Omega.{arith}
 use mathlib.Core.Bool.{true, false, false≢true}
 use mathlib.Core.List.{[], _∷_}
-use mathlib.Core.Path.{_≡_}
+use mathlib.Core.Path.{_≡_, ap}
 use lib.Count.{ones, ones-le}
 use lib.Dec.{eqb}
 use lib.Pow.{pow-pos}
 use borrow.Author.Tests.{eqb-true, eqb-false}
-use Rattle.lists.proofs.Split.{cases}
-use Rattle.lists.proofs.Kept.{count, nth, Placed, nth-placed}
+use Rattle.lists.proofs.CaseSplits.{cases}
+use Rattle.lists.proofs.PassingNumbers.{count, nth, Placed, nth-placed}
 use Rattle.lists.proofs.Members.{member-has}
 use Rattle.colours.specs.Sets.{isColourSet, has, coloursBelow, colourAt, placeOf}
 use Rattle.colours.specs.Cache.{isColourCount}
@@ -24,6 +24,10 @@ count-range n e = member-has (λ (m : ℕ). (1 ≤ m) × (m ≤ 16)) n (1 ∷ 2 
 pub count-high : (n : ℕ) → 16 < n → isColourCount n ≡ false
 count-high n l =
     cases (isColourCount n) (λ e. absurd (lt-irrefl n (omega (arith, count-range n e)))) (λ e. e)
+
+-- a colour below 32 is its own bit
+pub own-colour : (c x : ℕ) → x < 32 → has c (x % 32) ≡ has c x
+own-colour c x l = ap (has c) (mod-eq-of-lt l)
 
 -- what an accepted set has
 pub record ColourSet (n s : ℕ) : Type 0 where

@@ -7,7 +7,7 @@ use mathlib.Core.Bool.{true}
 use mathlib.Core.Path.{_≡_}
 use lib.Arith.{digits-div, digits-mod, digits-lt}
 use lib.Count.{ones}
-use Rattle.lists.proofs.Kept.{count, nth, placed-nth}
+use Rattle.lists.proofs.PassingNumbers.{count, nth, placed-nth}
 use Rattle.colours.specs.Sets.{has, coloursBelow, colourAt, placeOf}
 use Rattle.colours.specs.Pages.{layoutPage, bleachIndex}
 use Rattle.colours.proofs.Ranges.{ColourSet, counted, colour-placed, colour-lt}

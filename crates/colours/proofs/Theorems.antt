@@ -14,7 +14,7 @@ use Rattle.colours.specs.Pages.{layoutPage, layoutReply, bleachIndex, bl
 use Rattle.colours.proofs.Ranges.{count-range, colour-set}
 use Rattle.colours.proofs.CacheSets.{set-colour}
 use Rattle.colours.proofs.RoundTrip.{has-layout, bleach-layout, layout-bleach, layout-lt}
-use Rattle.colours.proofs.Consecutive.{consecutive-has, consecutive-within, bleach-aligned, bleach-interval}
+use Rattle.colours.proofs.ConsecutiveSets.{consecutive-has, consecutive-within, bleach-aligned, bleach-interval}
 use Rattle.colours.proofs.Replies.{cache-iff, layout-answers, bleach-answers, bleach-answered}
 
 -- A cache has N colours just where it has N × W × 4,096 bytes in its W ways.

@@ -3,12 +3,12 @@ use Prim.Native.Nat.{ℕ, _*_, _/_, _%_}
 use mathlib.Core.Bool.{Bool, not}
 use mathlib.Core.List.{[], _∷_}
 use lib.Dec.{eqb}
-use Rattle.lists.specs.Range.{any}
+use Rattle.lists.specs.Range.{anyOf}
 use Rattle.refusal.specs.Reply.{Reply, Test, test, unless}
 
 -- only N = 1, 2, 4, 8 or 16 is taken
 unfoldable pub isColourCount : ℕ → Bool
-isColourCount n = any (eqb n) (1 ∷ 2 ∷ 4 ∷ 8 ∷ 16 ∷ [])
+isColourCount n = anyOf (eqb n) (1 ∷ 2 ∷ 4 ∷ 8 ∷ 16 ∷ [])
 
 -- refusal 2: no such N
 abbrev pub countTest : ℕ → Test

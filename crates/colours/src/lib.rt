@@ -13,4 +13,5 @@ pub use pages::Laid;
 pub use pages::bleach;
 pub use pages::drop_colour_bits;
 pub use pages::layout;
+pub use sets::has_colour;
 pub use sets::is_colour_set;

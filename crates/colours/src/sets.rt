@@ -1,6 +1,6 @@
 // Colour sets: document 01, a number whose bit c stands for colour c, and the places of its colours.
 ghost use mathlib.Core.Path.{_≡_};
-ghost use Prim.Native.Nat.{_≤_, _<_};
+ghost use Prim.Native.Nat.{_%_, _≤_, _<_};
 ghost use Rattle.colours.specs.Sets.{isColourSet, has, colourAt, placeOf};
 
 // Whether a set is not empty and all its colours are below the number of colours.
@@ -16,12 +16,11 @@ pub fn is_colour_set(colours: u32, set: u32) -> bool
     set >> colours == 0
 }
 
-// Whether a colour is in a set.
-pub(crate) fn has_colour(set: u32, colour: u32) -> bool
-    requires { ⌜ colour < 32 ⌝ }
-    ensures { λ r. ⌜ r ≡ has set colour ⌝ }
+// Whether a colour is in a set: one of its 32 bits, whatever the colour.
+pub fn has_colour(set: u32, colour: u32) -> bool
+    ensures { λ r. ⌜ r ≡ has set (colour % 32) ⌝ }
 {
-    (set >> colour) % 2 == 1
+    (set >> (colour % 32)) % 2 == 1
 }
 
 // How many colours of a set are below a colour.

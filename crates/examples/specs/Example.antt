@@ -11,7 +11,7 @@ use Rattle.isolation.specs.DomainRule.{Call, outcome, run, told}
 use Rattle.colours.specs.Cache.{cacheReply}
 use Rattle.colours.specs.Pages.{layoutReply, bleachReply, dropBits, equationOne}
 use Rattle.supply.specs.Supply.{supply}
-use Rattle.times.specs.First.{Time, At, Late}
+use Rattle.times.specs.FirstTime.{Time, At, Late}
 use Rattle.rows.specs.Reload.{reloaded}
 use Rattle.times.specs.Times.{taskTime, vcpuTime}
 use Rattle.times.specs.Rounds.{taskRounds, vcpuRounds, taskBound, vcpuBound}
@@ -66,7 +66,7 @@ sameList [] (y ∷ ys) = false
 sameList (x ∷ xs) [] = false
 sameList (x ∷ xs) (y ∷ ys) = eqb x y && sameList xs ys
 
--- a reply of the seven calls as numbers: which answer it is, and its numbers
+-- a reply of a call as numbers: which answer it is, and its numbers
 unfoldable pub numbers : Reply Answer → List ℕ
 numbers (Answers (Mapped f)) = 1 ∷ f ∷ []
 numbers (Answers Unmapped) = 2 ∷ []

@@ -9,7 +9,7 @@ use Rattle.board.specs.Tests.{firstQuotas}
 use Rattle.calls.specs.Table.{State}
 use Rattle.calls.specs.Calls.{Move, Mapped, Old, New, Active, Moved, Quota}
 use Rattle.isolation.specs.DomainRule.{Call, Look, Fault, Release, Colours, Recolour, SetQuota, TakeBack}
-use Rattle.times.specs.First.{At}
+use Rattle.times.specs.FirstTime.{At}
 use Rattle.examples.specs.Example.{Example, Cache, Layout, Bleach, Drop, Equation, Reply-after, Moves-of, List-after, Table-after, Supply, Vcpu-time, Task-time, Vcpu-rounds, Task-rounds, Reloads, Pairwise-time, Admission}
 
 abbrev pub sets : List ℕ
@@ -105,16 +105,16 @@ four-to-the-middle = Recolour 0 0x6 (20 ∷ 21 ∷ 22 ∷ 23 ∷ 24 ∷ 25 ∷ 2
 abbrev pub moved : ℕ → ℕ → ℕ → Move
 moved p f g = record { page = p; source = f; target = g }
 
-abbrev pub grant : List ℕ
-grant = 0xFF ∷ 0 ∷ 0 ∷ 0 ∷ 0 ∷ 0 ∷ 0 ∷ 0 ∷ []
+abbrev pub exampleGrant : List ℕ
+exampleGrant = 0xFF ∷ 0 ∷ 0 ∷ 0 ∷ 0 ∷ 0 ∷ 0 ∷ 0 ∷ []
 
 -- the board that document 01 gives the program `admit`: N 16, F 64 and one domain with 255
 abbrev pub planned : Board
-planned = record { colours = 16; frames = 64; domains = 1; grants = grant; active = grant; quotas = firstQuotas }
+planned = record { colours = 16; frames = 64; domains = 1; grants = exampleGrant; active = exampleGrant; quotas = firstQuotas }
 
 -- the same with a quota of 0, which admission does not test
 abbrev pub planned-without-quota : Board
-planned-without-quota = record { colours = 16; frames = 64; domains = 1; grants = grant; active = grant; quotas = replicate 8 0 }
+planned-without-quota = record { colours = 16; frames = 64; domains = 1; grants = exampleGrant; active = exampleGrant; quotas = replicate 8 0 }
 
 -- one VCPU on core 0 in domain 0: period and budget
 abbrev pub vcpu : ℕ → ℕ → List ℕ

@@ -1,4 +1,3 @@
--- The definitions of `frames`: the answers in document 01's numbers, and what its code works out on its way.
+-- The definitions of `frames`: the answers in document 01's numbers, and the tests with which its calls start.
 pub mod Paper
 pub mod Steps
-pub mod Triples

@@ -1,6 +1,6 @@
--- The answers of the seven calls in document 01's numbers: for each case what the paper calls it, or the refusal's number and row.
+-- The answers of look, fault, release, colours and set quota in document 01's numbers: for each case what the paper calls it, or the refusal's number and row.
 use Rattle.refusal.specs.Reply.{Reply, Answers, Refuses}
-use Rattle.calls.specs.Calls.{Answer, Mapped, Unmapped, Old, New, Freed, Active, Moved, Quota}
+use Rattle.calls.specs.Calls.{Answer, Mapped, Unmapped, Old, New, Freed, Active, Quota}
 use Rattle.frames.specs.declared.mapping.Looked.{Looked}
 use Rattle.frames.specs.declared.mapping.Looked.the-variants.{Mapped as LookedMapped, Unmapped as LookedUnmapped, Refused as LookedRefused}
 use Rattle.frames.specs.declared.mapping.Faulted.{Faulted}
@@ -9,10 +9,8 @@ use Rattle.frames.specs.declared.mapping.Released.{Released}
 use Rattle.frames.specs.declared.mapping.Released.the-variants.{Freed as ReleasedFreed, Refused as ReleasedRefused}
 use Rattle.frames.specs.declared.quotas.QuotaSet.{QuotaSet}
 use Rattle.frames.specs.declared.quotas.QuotaSet.the-variants.{Quota as QuotaIs, Refused as QuotaRefused}
-use Rattle.frames.specs.declared.recolouring.ActiveColours.{ActiveColours}
-use Rattle.frames.specs.declared.recolouring.ActiveColours.the-variants.{Set as ActiveSet, Refused as ActiveRefused}
-use Rattle.frames.specs.declared.recolouring.Moved.{Moved as MovedAnswer}
-use Rattle.frames.specs.declared.recolouring.Moved.the-variants.{Count as MovedCount, Refused as MovedRefused}
+use Rattle.frames.specs.declared.active.ActiveColours.{ActiveColours}
+use Rattle.frames.specs.declared.active.ActiveColours.the-variants.{Set as ActiveSet, Refused as ActiveRefused}
 
 abbrev pub paperLooked : Looked → Reply Answer
 paperLooked (LookedMapped f) = Answers (Mapped f)
@@ -35,7 +33,3 @@ paperActive (ActiveRefused r) = Refuses (r .number) (r .row)
 abbrev pub paperQuota : QuotaSet → Reply Answer
 paperQuota (QuotaIs q) = Answers (Quota q)
 paperQuota (QuotaRefused r) = Refuses (r .number) (r .row)
-
-abbrev pub paperMoved : MovedAnswer → Reply Answer
-paperMoved (MovedCount n) = Answers (Moved n)
-paperMoved (MovedRefused r) = Refuses (r .number) (r .row)

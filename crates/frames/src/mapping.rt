@@ -6,19 +6,19 @@ ghost use Rattle.calls.specs.Table.{stateOf};
 ghost use Rattle.calls.specs.Calls.{look as lookCall, fault as faultCall, release as releaseCall};
 ghost use Rattle.frames.specs.Paper.{paperLooked, paperFaulted, paperReleased};
 ghost use Rattle.frames.specs.Steps.{pageReply};
-use crate::choosing::choose;
-use crate::scan::next_word;
-use crate::scan::sum_all;
-use crate::scan::word_for;
 use board::Board;
 use board::Checked;
 use board::active_set;
-use board::check_call;
+use board::also;
 use board::quota_of;
+use board_tests::check_call;
+use choice::choose;
+use choice::sum_all;
+use limits::LAST_PAGE;
 use pass::go_over;
 use refusal::Refusal;
-
-const LAST_PAGE: u32 = 4095;
+use table_words::lowest_word;
+use table_words::word_for;
 
 pub enum Looked {
     Mapped(u32),
@@ -41,16 +41,7 @@ pub enum Released {
 fn check_page(board: Board, words: usize, domain: u32, page: u32) -> Checked
     ensures { λ r. ⌜ paperChecked r ≡ pageReply board words domain page ⌝ }
 {
-    match check_call(board, words, domain) {
-        Checked::Refused(refusal) => Checked::Refused(refusal),
-        Checked::Accepted => {
-            if LAST_PAGE < page {
-                Checked::Refused(Refusal { number: 10, row: 0 })
-            } else {
-                Checked::Accepted
-            }
-        }
-    }
+    also(check_call(board, words, domain), 10, LAST_PAGE < page)
 }
 
 // The lowest frame with the domain's word for the page.
@@ -60,7 +51,7 @@ pub fn look(board: Board, table: &[u16], domain: u32, page: u32) -> Looked
     match check_page(board, table.len(), domain, page) {
         Checked::Refused(refusal) => Looked::Refused(refusal),
         Checked::Accepted => {
-            let frame = next_word(table, 0, word_for(domain, page));
+            let frame = lowest_word(table, word_for(domain, page));
             if frame < table.len() {
                 Looked::Mapped(frame as u32)
             } else {
@@ -81,16 +72,16 @@ pub fn fault(board: Board, table: &mut [u16], domain: u32, page: u32) -> Faulted
     }
     let word = word_for(domain, page);
     let first = word_for(domain, 0);
-    let kept = go_over(table, word, first);
-    if 0 < kept.mapped {
-        return Faulted::Old((kept.mapped - 1) as u32);
+    let tally = go_over(table, word, first);
+    if 0 < tally.mapped {
+        return Faulted::Old((tally.mapped - 1) as u32);
     }
-    let held = kept.held;
+    let held = tally.held;
     let colours = board.colours as usize;
     if quota_of(board, domain) as usize <= sum_all(held, colours) {
         return Faulted::Refused(Refusal { number: 28, row: 0 });
     }
-    let free = kept.free;
+    let free = tally.free;
     let frame = choose(held, free, colours, active_set(board, domain), table.len());
     if frame < table.len() {
         table[frame] = word;
@@ -108,7 +99,7 @@ pub fn release(board: Board, table: &mut [u16], domain: u32, page: u32) -> Relea
     if let Checked::Refused(refusal) = check_page(board, table.len(), domain, page) {
         return Released::Refused(refusal);
     }
-    let frame = next_word(table, 0, word_for(domain, page));
+    let frame = lowest_word(table, word_for(domain, page));
     if frame < table.len() {
         table[frame] = 0;
         return Released::Freed(frame as u32);

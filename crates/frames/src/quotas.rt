@@ -8,13 +8,14 @@ ghost use Rattle.calls.specs.Table.{stateOf};
 ghost use Rattle.calls.specs.Calls.{setQuota};
 ghost use Rattle.frames.specs.Paper.{paperQuota};
 ghost use Rattle.frames.specs.Steps.{quotaReply};
-use crate::scan::word_for;
 use board::Board;
 use board::Checked;
-use board::check_call;
+use board::also;
 use board::no_quota;
+use board_tests::check_call;
 use pass::count_own;
 use refusal::Refusal;
+use table_words::word_for;
 
 pub enum QuotaSet {
     Quota(u32),
@@ -37,17 +38,15 @@ fn with_quota(quotas: [u32; 8], domain: u32, quota: u32) -> [u32; 8]
     next
 }
 
-// Refusals 2 to 8, 26 and 27. The frames held are counted in one pass over the table.
+// Refusals 2 to 8, 26 and 27. The frames held are counted in one pass over the table, where the rest passes.
 fn check_quota(board: Board, table: &[u16], domain: u32, quota: u32) -> Checked
     ensures { λ r. ⌜ paperChecked r ≡ quotaReply (stateOf board (now (table .entry))) domain quota ⌝ }
 {
     if let Checked::Refused(refusal) = check_call(board, table.len(), domain) {
         return Checked::Refused(refusal);
     }
-    if no_quota(quota) || quota < count_own(table, word_for(domain, 0)) as u32 {
-        return Checked::Refused(Refusal { number: 27, row: 0 });
-    }
-    Checked::Accepted
+    let fails = no_quota(quota) || quota < count_own(table, word_for(domain, 0)) as u32;
+    also(Checked::Accepted, 27, fails)
 }
 
 // What a domain that asks for a quota is answered. A refusal leaves the quotas as they were.

@@ -8,16 +8,16 @@ use lib.Bits.{bitAnd}
 use lib.Dec.{eqb}
 use lib.ListN.{length, getD, set}
 use borrow.Author.Tests.{eqb-true, not-false}
-use Rattle.lists.proofs.Split.{cases, neither}
-use Rattle.lists.proofs.Found.{any-none}
+use Rattle.lists.proofs.CaseSplits.{cases, neither}
+use Rattle.lists.proofs.Searches.{any-none}
 use Rattle.colours.specs.Sets.{has}
 use Rattle.colours.proofs.Ranges.{count-range}
-use Rattle.colours.proofs.Common.{inside-has, apart-has}
+use Rattle.colours.proofs.CommonColours.{inside-has, apart-has}
 use Rattle.board.specs.declared.Board.{Board}
 use Rattle.board.specs.Tests.{grant, emptyOrOutside}
-use Rattle.board.proofs.Passed.{Passed, split, join, sized}
+use Rattle.board.proofs.PassedTests.{Passed, split, join, sized}
 use Rattle.calls.specs.Table.{State, stateOf}
-use Rattle.calls.proofs.Recoloured.{active-placed, active-still}
+use Rattle.calls.proofs.RecolouringDone.{active-placed, active-still}
 use Rattle.isolation.specs.DomainRule.{Accepted}
 
 -- What calls change of a state: the active sets and the quotas of its board, and its table. The rest of the board is as at the start, after any

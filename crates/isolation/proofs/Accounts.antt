@@ -16,8 +16,8 @@ use Rattle.isolation.specs.DomainRule.{Call, Look, Fault, Release, names
 use Rattle.isolation.specs.Kinds.{isNew, isFreed}
 use Rattle.isolation.specs.Accounts.{howMany, Entry, entries, newFaults, acceptedReleases, newIn, freedIn}
 use Rattle.isolation.specs.Accounts.{FramesAccountedFor, LogIsEnough, DifferenceTells, ReplayTells}
-use Rattle.isolation.proofs.Agree.{agree-self}
-use Rattle.isolation.proofs.Keeps.{call-keeps}
+use Rattle.isolation.proofs.DomainView.{agree-self}
+use Rattle.isolation.proofs.InvariantPreservation.{call-keeps}
 use Rattle.isolation.proofs.Rule.{start-good, history-good, own-step, meets-again, others-unseen}
 use Rattle.isolation.proofs.Theorems.{reserved-stays, one-frame-a-page}
 use Rattle.isolation.proofs.Holding.{one}

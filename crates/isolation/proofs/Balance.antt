@@ -9,30 +9,30 @@ use lib.Dec.{eqb}
 use lib.ListN.{length}
 use borrow.Author.Tests.{eqb-true}
 use Rattle.lists.specs.Range.{headOr, isEmpty}
-use Rattle.lists.proofs.Split.{cases, and-never}
+use Rattle.lists.proofs.CaseSplits.{cases, and-never}
 use Rattle.lists.proofs.Members.{Each, head-has}
 use Rattle.refusal.specs.Reply.{Reply, Answers, Test, passes}
 use Rattle.refusal.proofs.Replies.{passed-first}
 use Rattle.colours.proofs.Ranges.{count-range}
 use Rattle.board.specs.Tests.{activeSet}
-use Rattle.board.proofs.Passed.{Accepted as Fine}
+use Rattle.board.proofs.PassedTests.{CallAccepted}
 use Rattle.calls.specs.Table.{State, stateOf, word, wordOf, hasWord, framesWith, framesHeld, mappedTo}
-use Rattle.calls.specs.Choices.{choices}
+use Rattle.calls.specs.FrameChoice.{choices}
 use Rattle.calls.specs.Calls.{Answer, Freed, Move, Done, Outcome, settle, called, only, written, lookAnswer, faultDone, pairs, moveAll, withActive}
 use Rattle.calls.specs.Calls.{look, fault, release, colours, recolour, setQuota}
 use Rattle.calls.specs.TakeBack.{moveList, backward, takeBack}
-use Rattle.calls.proofs.Words.{free-word, whose-word}
-use Rattle.calls.proofs.Choice.{Chosen, chosen}
+use Rattle.calls.proofs.PageWords.{free-word, whose-word}
+use Rattle.calls.proofs.ChoiceLaws.{Chosen, chosen}
 use Rattle.calls.proofs.Moves as triples
 use Rattle.calls.proofs.AnyOrder.{Apart, pairs-lead, pairs-apart}
-use Rattle.calls.proofs.TakenBack.{Fits, list-fits}
-use Rattle.calls.proofs.Undone.{once-apart}
+use Rattle.calls.proofs.TakingBackDone.{Fits, list-fits}
+use Rattle.calls.proofs.Undoing.{once-apart}
 use Rattle.isolation.specs.DomainRule.{Call, Look, Fault, Release, Colours, Recolour, SetQuota, TakeBack, names, outcome, run, Told, told, answers}
 use Rattle.isolation.specs.Kinds.{isNew, isFreed, isAccepted, isFault, isRelease}
 use Rattle.isolation.specs.Accounts.{howMany, HeldSince}
 use Rattle.isolation.proofs.AcceptedBoard.{live}
 use Rattle.isolation.proofs.TestLists.{called-any, small-page}
-use Rattle.isolation.proofs.Found.{mapped}
+use Rattle.isolation.proofs.CallSearches.{mapped}
 use Rattle.isolation.proofs.Holding.{one, Vacant, write-held, moves-held}
 
 -- A call of domain e in s, and what it comes to, as to the frames that d holds
@@ -40,7 +40,7 @@ abbrev pub Balanced : ℕ → ℕ → State → Outcome → Type 0
 Balanced d e s o = framesHeld (o .next) d + one (isFreed (o .reply) && eqb e d) ≡ framesHeld s d + one (isNew (o .reply) && eqb e d)
 
 module _ (d e : ℕ) (s : State) where
-  under : (own : List Test) (done : Done) → (Fine (s .board) (length (s .table)) e → passes own ≡ true → Balanced d e s (settle s (Answers done)))
+  under : (own : List Test) (done : Done) → (CallAccepted (s .board) (length (s .table)) e → passes own ≡ true → Balanced d e s (settle s (Answers done)))
       → Balanced d e s (called s e own done)
   unfolding settle
   under = called-any (Balanced d e s) s (λ n r. refl) e
@@ -70,12 +70,12 @@ module _ (d e : ℕ) (s : State) where
       omega (arith, rw (eqb-true (word (s .table) f) (wordOf e p) (k .1), free-word d, whose-word d e p small) at counts)
 
   -- moves count for nothing
-  moved : (c : ℕ) (ms : List Move) → length (s .table) ≡ s .board .frames → triples.Each (Vacant (s .table)) ms → triples.Sorted Apart ms
+  moved : (c : ℕ) (ms : List Move) → length (s .table) ≡ s .board .frames → triples.EachMove (Vacant (s .table)) ms → triples.Sorted Apart ms
       → framesHeld (stateOf (withActive (s .board) e c) (moveAll (s .table) ms)) d + 0 ≡ framesHeld s d + 0
   unfolding framesHeld framesWith
   moved c ms long vacant apart = ap (λ (n : ℕ). n + 0) (moves-held d (s .board .frames) ms (s .table) long vacant apart)
 
-  back-vacant : (c : ℕ) (ms : List Move) → length (s .table) ≡ s .board .frames → triples.Each (Fits s e c) ms → triples.Each (Vacant (s .table)) (backward ms)
+  back-vacant : (c : ℕ) (ms : List Move) → length (s .table) ≡ s .board .frames → triples.EachMove (Fits s e c) ms → triples.EachMove (Vacant (s .table)) (backward ms)
   unfolding backward
   back-vacant c [] long fits = tt
   back-vacant c (m ∷ ms) long fits =
@@ -102,7 +102,7 @@ call-balanced d s (Recolour e c lent) =
     under d e s _ _ (λ fine ok.
     let coloured = count-range (s .board .colours) (fine .passed .count) .0 in
     let long = fine .bounds .long in
-    let vacant = triples.each-map (λ m k. record { from-frame = rw long (k .from-frame); to-frame = rw long (k .to-frame); free = k .free }) (pairs s e c) (pairs-lead s e c coloured) in
+    let vacant = triples.each-move-map (λ m k. record { from-frame = rw long (k .from-frame); to-frame = rw long (k .to-frame); free = k .free }) (pairs s e c) (pairs-lead s e c coloured) in
     moved d e s c (pairs s e c) long vacant (pairs-apart s e c coloured))
 call-balanced d s (SetQuota e q) = under d e s _ _ (λ fine ok. refl)
 call-balanced d s (TakeBack e c list) =

@@ -10,25 +10,25 @@ use lib.ListN.{length, set}
 use lib.Seq.{getD-set-other}
 use borrow.Author.Tests.{eqb-true, eqb-false}
 use Rattle.lists.specs.Range.{headOr, isEmpty}
-use Rattle.lists.proofs.Split.{cases}
+use Rattle.lists.proofs.CaseSplits.{cases}
 use Rattle.refusal.specs.Reply.{Answers, Test, unless, passes}
 use Rattle.refusal.proofs.Replies.{passed-first}
 use Rattle.board.specs.declared.Board.{Board}
 use Rattle.board.specs.Tests.{activeSet}
 use Rattle.calls.specs.Table.{State, word, wordOf, isOf, hasWord, isHeld, mappedTo}
-use Rattle.calls.specs.Choices.{choices}
+use Rattle.calls.specs.FrameChoice.{choices}
 use Rattle.calls.specs.Calls.{Done, settle, called, written, look, faultDone, fault, release, colours, recolour, setQuota}
 use Rattle.calls.specs.TakeBack.{takeBack}
-use Rattle.calls.proofs.Words.{page-word}
-use Rattle.calls.proofs.InColour.{none-counts, same-count, no-fewer-count, one-fewer-count}
-use Rattle.calls.proofs.Choice.{First, first}
+use Rattle.calls.proofs.PageWords.{page-word}
+use Rattle.calls.proofs.ColourCounts.{none-counts, same-count, no-fewer-count, one-fewer-count}
+use Rattle.calls.proofs.ChoiceLaws.{First, first}
 use Rattle.isolation.specs.DomainRule.{Call, Look, Fault, Release, Colours, Recolour, SetQuota, TakeBack, names, outcome, run, Accepted, Empty}
 use Rattle.isolation.specs.EvenUse.{freedOrMoved, KeptAll, isActive, freeIn, heldIn, Even, EvenUse}
 use Rattle.isolation.proofs.AcceptedBoard.{Live, at, setOf}
 use Rattle.isolation.proofs.TestLists.{unless-any, called-one, small-page}
 use Rattle.isolation.proofs.Invariant.{after-write, Inv, Good, good, known}
-use Rattle.isolation.proofs.Agree.{Agree}
-use Rattle.isolation.proofs.Keeps.{call-keeps}
+use Rattle.isolation.proofs.DomainView.{Agree}
+use Rattle.isolation.proofs.InvariantPreservation.{call-keeps}
 use Rattle.isolation.proofs.Rule.{start-good, none-held}
 
 -- at the start nothing is held

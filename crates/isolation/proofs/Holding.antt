@@ -8,17 +8,17 @@ use lib.Dec.{eqb}
 use lib.ListN.{length, set, length-set}
 use lib.Seq.{getD-set-same, getD-set-other}
 use borrow.Author.Tests.{eqb-true, eqb-false}
-use Rattle.lists.specs.Choice.{if_then_else_}
+use Rattle.lists.specs.IfThenElse.{if_then_else_}
 use Rattle.lists.specs.Range.{upto, keep}
-use Rattle.lists.proofs.Split.{cases}
-use Rattle.lists.proofs.Filter.{same-kept}
-use Rattle.lists.proofs.Same.{one-more}
+use Rattle.lists.proofs.CaseSplits.{cases}
+use Rattle.lists.proofs.FilteredRange.{same-kept}
+use Rattle.lists.proofs.AgreeingTests.{one-more}
 use Rattle.calls.specs.Table.{word, isOf, isHeld}
 use Rattle.calls.specs.Calls.{Move, move, moveAll}
-use Rattle.calls.proofs.Words.{free-word}
-use Rattle.calls.proofs.Moves.{Each, Sorted}
+use Rattle.calls.proofs.PageWords.{free-word}
+use Rattle.calls.proofs.Moves.{EachMove, Sorted}
 use Rattle.calls.proofs.AnyOrder.{Apart}
-use Rattle.calls.proofs.Undone.{move-length, move-off}
+use Rattle.calls.proofs.Undoing.{move-length, move-off}
 
 -- one where a test passes
 abbrev pub one : Bool → ℕ
@@ -77,13 +77,13 @@ module _ (d m : ℕ) where
       omega (arith, rw (free-word d) at first, rw (still, free-word d) at second)
 
   -- and so do moves to different ones
-  pub moves-held : (ms : List Move) (t : List ℕ) → length t ≡ m → Each (Vacant t) ms → Sorted Apart ms → held (moveAll t ms) ≡ held t
+  pub moves-held : (ms : List Move) (t : List ℕ) → length t ≡ m → EachMove (Vacant t) ms → Sorted Apart ms → held (moveAll t ms) ≡ held t
   unfolding moveAll
   moves-held [] t long vacant apart = refl
   moves-held (s ∷ ms) t long vacant apart =
       moves-held ms (move t s) (move-length t s ∙ long) (still ms (vacant .1) (apart .0)) (apart .1) ∙ move-held t s long (vacant .0)
     where
-      still : (l : List Move) → Each (Vacant t) l → Each (Apart s) l → Each (Vacant (move t s)) l
+      still : (l : List Move) → EachMove (Vacant t) l → EachMove (Apart s) l → EachMove (Vacant (move t s)) l
       still [] vacant apart = tt
       still (a ∷ l) vacant apart =
           let k = vacant .0 in

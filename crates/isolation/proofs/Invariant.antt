@@ -10,7 +10,7 @@ use lib.Dec.{eqb}
 use lib.ListN.{length, set, length-set}
 use lib.Seq.{getD-set-same, getD-set-other}
 use borrow.Author.Tests.{eqb-true, eqb-false}
-use Rattle.lists.proofs.Split.{cases}
+use Rattle.lists.proofs.CaseSplits.{cases}
 use Rattle.refusal.specs.Reply.{passes}
 use Rattle.board.specs.declared.Board.{Board}
 use Rattle.board.specs.Tests.{grant, emptyOrOutside, noQuota, badQuotas}

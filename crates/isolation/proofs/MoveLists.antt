@@ -8,7 +8,7 @@ use Rattle.refusal.specs.Reply.{Refuses}
 use Rattle.calls.specs.Table.{State}
 use Rattle.calls.specs.Calls.{Move, recolour, triples}
 use Rattle.calls.proofs.MoveList.{first-words, other-words, refused-list}
-use Rattle.calls.proofs.TakenBack.{none-written}
+use Rattle.calls.proofs.TakingBackDone.{none-written}
 use Rattle.isolation.specs.DomainRule.{Recolour, TakeBack, told}
 
 module _ (s : State) (d c : ℕ) (lent : List ℕ) where

@@ -10,14 +10,14 @@ use lib.ListN.{length}
 use lib.Seq.{getD-set-same, getD-set-other}
 use borrow.Author.Tests.{eqb-true, eqb-false, ne-eqb, ltb-false}
 use Rattle.lists.specs.Range.{headOr}
-use Rattle.lists.proofs.Split.{cases, and-both, neither}
-use Rattle.lists.proofs.Found.{none-kept}
+use Rattle.lists.proofs.CaseSplits.{cases, and-both, neither}
+use Rattle.lists.proofs.Searches.{none-kept}
 use Rattle.refusal.specs.Reply.{Answers, Test}
 use Rattle.refusal.proofs.Replies.{passed-first}
 use Rattle.board.specs.Tests.{activeSet, quota, noQuota}
-use Rattle.board.proofs.Passed.{Accepted as Fine, quotas-split, quota-placed}
+use Rattle.board.proofs.PassedTests.{CallAccepted, quotas-split, quota-placed}
 use Rattle.calls.specs.Table.{State, wordOf, isHeld, framesWith, framesHeld, mappedTo}
-use Rattle.calls.specs.Choices.{choices}
+use Rattle.calls.specs.FrameChoice.{choices}
 use Rattle.calls.specs.Calls.{New, Done, settle, called, faultDone, quotaTest, withQuota}
 use Rattle.calls.specs.Calls.{look, fault, release, colours, recolour, setQuota}
 use Rattle.calls.specs.TakeBack.{takeBack}
@@ -70,7 +70,7 @@ module _ (d : ℕ) (s : State) (within : WithinQuota d s) where
       rw same (omega (arith, rw new at (no-more-held d s (Fault e p)), room)))
       (λ none. no-more (Fault e p) none same)
 
-  allowed : (e q : ℕ) → Fine (s .board) (length (s .table)) e → quotaTest s e q .fails ≡ false → framesHeld s d ≤ quota (withQuota (s .board) e q) d
+  allowed : (e q : ℕ) → CallAccepted (s .board) (length (s .table)) e → quotaTest s e q .fails ≡ false → framesHeld s d ≤ quota (withQuota (s .board) e q) d
   allowed e q fine ok =
       let qs : List ℕ = s .board .quotas in
       cases (eqb e d)

@@ -8,7 +8,7 @@ use mathlib.Core.Logic.{_⊎_, inl, inr, ⊎-elim, _↔_}
 use mathlib.Core.Path.{_≡_, refl, sym, ap, _∙_}
 use lib.Dec.{eqb}
 use borrow.Author.Tests.{eqb-true, eqb-false, eq-eqb}
-use Rattle.lists.proofs.Split.{cases}
+use Rattle.lists.proofs.CaseSplits.{cases}
 use Rattle.board.specs.declared.Board.{Board}
 use Rattle.board.specs.Tests.{badQuotas}
 use Rattle.calls.specs.Table.{State, word, isHeld}
@@ -17,12 +17,12 @@ use Rattle.isolation.specs.DomainRule.{LookTheSame, SameColours, SameMap
 use Rattle.isolation.proofs.Unwinding.{runs, owns, heard, meet, alike, rule}
 use Rattle.isolation.proofs.AcceptedBoard.{live, facts}
 use Rattle.isolation.proofs.Invariant.{free, reserved, Good, good, invariant, not-reserved}
-use Rattle.isolation.proofs.Agree.{Agree, agree-self, agree-back, agree-on}
-use Rattle.isolation.proofs.Found.{word-page}
-use Rattle.isolation.proofs.Keeps.{call-keeps}
-use Rattle.isolation.proofs.Sees.{call-meets}
-use Rattle.isolation.proofs.Reveals.{reveals}
-use Rattle.isolation.proofs.Idle.{Still, still-own, still-other, still-left, still-shown}
+use Rattle.isolation.proofs.DomainView.{Agree, agree-self, agree-back, agree-on}
+use Rattle.isolation.proofs.CallSearches.{word-page}
+use Rattle.isolation.proofs.InvariantPreservation.{call-keeps}
+use Rattle.isolation.proofs.OwnCalls.{call-meets}
+use Rattle.isolation.proofs.RevealedState.{reveals}
+use Rattle.isolation.proofs.IdleBoard.{Still, still-own, still-other, still-left, still-shown}
 
 abbrev pub step : State → Call → State
 step s c = outcome s c .next

@@ -13,15 +13,15 @@ use Rattle.board.specs.Tests.{activeSet}
 use Rattle.calls.specs.Table.{State}
 use Rattle.calls.specs.Calls.{Moved, Outcome, recolour, triples, listed}
 use Rattle.calls.specs.TakeBack.{takeBack}
-use Rattle.calls.proofs.Recoloured.{recoloured}
+use Rattle.calls.proofs.RecolouringDone.{recoloured}
 use Rattle.calls.proofs.MoveList.{first-words, move-count}
-use Rattle.calls.proofs.Undone.{undone}
+use Rattle.calls.proofs.Undoing.{undone}
 use Rattle.isolation.specs.DomainRule.{Call, Look, Colours, Recolour, TakeBack, names, outcome, run, own, Told, told, Accepted, Empty}
 use Rattle.isolation.specs.TakingBack.{wrote, TakingBackRestores, TakingBackUnseen, TakingBackAtOnce}
 use Rattle.isolation.proofs.Invariant.{Good, good}
-use Rattle.isolation.proofs.Keeps.{call-keeps}
+use Rattle.isolation.proofs.InvariantPreservation.{call-keeps}
 use Rattle.isolation.proofs.Rule.{start-good, history-good, Related, own-step, others-unseen, looks-same}
-use Rattle.isolation.proofs.InActive.{history-inside, start-inside}
+use Rattle.isolation.proofs.ActiveFrames.{history-inside, start-inside}
 
 -- the count of domains is that of the start
 same-domains : {b : Board} {t₀ : List ℕ} {s : State} → Good b t₀ s → (d : ℕ) → d < s .board .domains → d < b .domains

@@ -6,13 +6,13 @@ use mathlib.Core.List.{List, [], _∷_, _++_, append-assoc, append-nil}
 use mathlib.Core.Path.{_≡_, refl, ap}
 use lib.ListN.{length}
 use borrow.Author.Tests.{ltb-false}
-use Rattle.lists.proofs.Split.{cases}
+use Rattle.lists.proofs.CaseSplits.{cases}
 use Rattle.refusal.specs.Reply.{Answers, Refuses, Test, unless, passes}
 use Rattle.refusal.proofs.Replies.{passed-first, passed-answers}
 use Rattle.refusal.proofs.Order.{unless-passed, passed-earlier, passed-later}
 use Rattle.board.specs.declared.Board.{Board}
 use Rattle.board.specs.Tests.{boardTests, badQuotas, quotasTest, stateTests, callerTest, callTests, callReply}
-use Rattle.board.proofs.Passed.{Accepted as Fine, accepted, caller-below}
+use Rattle.board.proofs.PassedTests.{CallAccepted, accepted, caller-below}
 use Rattle.calls.specs.Table.{State}
 use Rattle.calls.specs.Calls.{Done, Outcome, settle, called, pageTest}
 use Rattle.isolation.specs.DomainRule.{Accepted}
@@ -40,7 +40,7 @@ module _ (K : Outcome → Type 0) (s : State) (refused : (n r : ℕ) → K (sett
   unless-any (t ∷ ts) done f = cases (t .fails) (λ e. rw e (refused (t .number) (t .row))) (λ e. rw e (unless-any ts done (λ p. f (rw e p))))
 
   pub called-any : (d : ℕ) (own : List Test) (done : Done)
-      → (Fine (s .board) (length (s .table)) d → passes own ≡ true → K (settle s (Answers done)))
+      → (CallAccepted (s .board) (length (s .table)) d → passes own ≡ true → K (settle s (Answers done)))
       → K (called s d own done)
   unfolding called callReply
   called-any d own done f =
@@ -51,7 +51,7 @@ module _ (K : Outcome → Type 0) (s : State) (refused : (n r : ℕ) → K (sett
 -- one state: what holds of it, and of the next one where the tests pass, holds of the next one after the call
 module _ (K : State → Type 0) (s : State) (k : K s) where
   pub next-any : (d : ℕ) (own : List Test) (done : Done)
-      → (Fine (s .board) (length (s .table)) d → passes own ≡ true → K (done .next))
+      → (CallAccepted (s .board) (length (s .table)) d → passes own ≡ true → K (done .next))
       → K (called s d own done .next)
   unfolding settle
   next-any d own done f = called-any (λ o. K (o .next)) s (λ n r. k) d own done f

@@ -14,7 +14,7 @@ use Rattle.isolation.specs.DomainRule.{Call, run, Accepted, Empty, Domai
 use Rattle.isolation.specs.Accounts.{OneFrameAPage, SameReserved}
 use Rattle.isolation.proofs.AcceptedBoard.{live}
 use Rattle.isolation.proofs.Invariant.{Inv, Good, good, invariant, known}
-use Rattle.isolation.proofs.Found.{word-page, own-frame}
+use Rattle.isolation.proofs.CallSearches.{word-page, own-frame}
 use Rattle.isolation.proofs.Rule.{start-good, history-good, domain-rule}
 
 -- Demand 3.

@@ -5,8 +5,8 @@ use mathlib.Core.Bool.{Bool, true, false}
 use mathlib.Core.List.{List, [], _∷_}
 use mathlib.Core.Logic.{_↔_}
 use mathlib.Core.Path.{_≡_, refl, sym, _∙_}
-use Rattle.lists.specs.Choice.{if_then_else_}
-use Rattle.lists.proofs.Split.{cases}
+use Rattle.lists.specs.IfThenElse.{if_then_else_}
+use Rattle.lists.proofs.CaseSplits.{cases}
 
 -- the state after a list of calls, its own calls, and what they are told
 unfoldable pub runs : {S C : Type 0} → (S → C → S) → S → List C → S

@@ -5,7 +5,7 @@ use mathlib.Core.Bool.{Bool, _&&_}
 use mathlib.Core.List.{List, [], _∷_}
 use mathlib.Core.Logic.{_↔_}
 use mathlib.Core.Path.{_≡_}
-use Rattle.lists.specs.Choice.{if_then_else_}
+use Rattle.lists.specs.IfThenElse.{if_then_else_}
 use Rattle.refusal.specs.Reply.{Reply, Answers}
 use Rattle.board.specs.Tests.{activeSet}
 use Rattle.calls.specs.Table.{State, word, wordOf, framesHeld, frees}

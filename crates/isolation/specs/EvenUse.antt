@@ -9,7 +9,7 @@ use Rattle.refusal.specs.Reply.{Reply, Answers, Refuses}
 use Rattle.colours.specs.Sets.{has}
 use Rattle.board.specs.Tests.{activeSet}
 use Rattle.calls.specs.Table.{State, hasWord, isHeld}
-use Rattle.calls.specs.Choices.{inColour}
+use Rattle.calls.specs.FrameChoice.{inColour}
 use Rattle.calls.specs.Calls.{Answer, Mapped, Unmapped, Old, New, Freed, Active, Moved, Quota}
 use Rattle.isolation.specs.DomainRule.{Call, names, outcome, run, Accepted, Empty}
 

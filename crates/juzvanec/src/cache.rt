@@ -1,5 +1,8 @@
 // The colours of a cache, layout and bleaching for callers in C: document 01, "Colours of the cache".
 ghost use mathlib.Core.Path.{_≡_};
+ghost use Prim.Native.Nat.{ℕ};
+ghost use Rattle.lists.specs.Naming.{With};
+ghost use Rattle.refusal.specs.Reply.{Reply};
 ghost use Rattle.colours.specs.Cache.{cacheReply};
 ghost use Rattle.colours.specs.Pages.{layoutReply, bleachReply};
 ghost use Rattle.marshal.specs.Replies.{numberOf, rowOf, valueOf, itself};
@@ -15,9 +18,10 @@ pub extern "C" fn juzvanec_cache_colours(
     colours: &mut u32,
     row: &mut u32,
 ) -> u32
-    ensures { λ r. ⌜ r ≡ numberOf (cacheReply bytes ways) ⌝ }
-    ensures { λ _. ⌜ now (colours .exit) ≡ valueOf itself (cacheReply bytes ways) ⌝ }
-    ensures { λ _. ⌜ now (row .exit) ≡ rowOf (cacheReply bytes ways) ⌝ }
+    ensures { λ r. ⌜ With (cacheReply bytes ways) (λ (o : Reply ℕ).
+        (r ≡ numberOf o)
+        × (now (colours .exit) ≡ valueOf itself o)
+        × (now (row .exit) ≡ rowOf o)) ⌝ }
 {
     let told = counted(colours::cache_colours(bytes, ways));
     *colours = told.value;
@@ -34,9 +38,10 @@ pub extern "C" fn juzvanec_layout(
     page: &mut u32,
     row: &mut u32,
 ) -> u32
-    ensures { λ r. ⌜ r ≡ numberOf (layoutReply colours set index) ⌝ }
-    ensures { λ _. ⌜ now (page .exit) ≡ valueOf itself (layoutReply colours set index) ⌝ }
-    ensures { λ _. ⌜ now (row .exit) ≡ rowOf (layoutReply colours set index) ⌝ }
+    ensures { λ r. ⌜ With (layoutReply colours set index) (λ (o : Reply ℕ).
+        (r ≡ numberOf o)
+        × (now (page .exit) ≡ valueOf itself o)
+        × (now (row .exit) ≡ rowOf o)) ⌝ }
 {
     let told = laid(colours::layout(colours, set, index));
     *page = told.value;
@@ -53,9 +58,10 @@ pub extern "C" fn juzvanec_bleach(
     index: &mut u32,
     row: &mut u32,
 ) -> u32
-    ensures { λ r. ⌜ r ≡ numberOf (bleachReply colours set page) ⌝ }
-    ensures { λ _. ⌜ now (index .exit) ≡ valueOf itself (bleachReply colours set page) ⌝ }
-    ensures { λ _. ⌜ now (row .exit) ≡ rowOf (bleachReply colours set page) ⌝ }
+    ensures { λ r. ⌜ With (bleachReply colours set page) (λ (o : Reply ℕ).
+        (r ≡ numberOf o)
+        × (now (index .exit) ≡ valueOf itself o)
+        × (now (row .exit) ≡ rowOf o)) ⌝ }
 {
     let told = bleached(colours::bleach(colours, set, page));
     *index = told.value;

@@ -3,7 +3,8 @@ ghost use mathlib.Core.Path.{_≡_};
 ghost use Prim.Native.Nat.{_*_};
 ghost use lib.ListN.{length as lengthOf};
 ghost use Rattle.rows.specs.Part.{partStart, partOf};
-ghost use Rattle.admission.specs.Admission.{room, admissionReply, timesAfter, roundsAfter};
+ghost use Rattle.lists.specs.Naming.{With};
+ghost use Rattle.admission.specs.Admission.{Judged, judged};
 ghost use Rattle.marshal.specs.BoardWords.{boardOf};
 ghost use Rattle.marshal.specs.Replies.{numberOf, rowOf};
 use marshal::admitted;
@@ -32,10 +33,11 @@ pub extern "C" fn juzvanec_admit_plan(
     rounds: &mut [u32],
     row: &mut u32,
 ) -> u32
-    ensures { λ r. ⌜ r ≡ numberOf (admissionReply (boardOf (now (board .entry))) reload (now (vcpus .entry)) (now (tasks .entry)) (room (now (times .entry)) (now (rounds .entry)))) ⌝ }
-    ensures { λ _. ⌜ now (row .exit) ≡ rowOf (admissionReply (boardOf (now (board .entry))) reload (now (vcpus .entry)) (now (tasks .entry)) (room (now (times .entry)) (now (rounds .entry)))) ⌝ }
-    ensures { λ _. ⌜ now (times .exit) ≡ timesAfter (boardOf (now (board .entry))) reload (now (vcpus .entry)) (now (tasks .entry)) (now (times .entry)) (now (rounds .entry)) ⌝ }
-    ensures { λ _. ⌜ now (rounds .exit) ≡ roundsAfter (boardOf (now (board .entry))) reload (now (vcpus .entry)) (now (tasks .entry)) (now (times .entry)) (now (rounds .entry)) ⌝ }
+    ensures { λ r. ⌜ With (judged (boardOf (now (board .entry))) reload (now (vcpus .entry)) (now (tasks .entry)) (now (times .entry)) (now (rounds .entry))) (λ (o : Judged).
+        (r ≡ numberOf (o .reply))
+        × (now (row .exit) ≡ rowOf (o .reply))
+        × (now (times .exit) ≡ o .times)
+        × (now (rounds .exit) ≡ o .rounds)) ⌝ }
 {
     let told = admitted(admission::admit_plan(
         board_of(board),

@@ -1,10 +1,11 @@
-// The seven calls on the frame table for callers in C: document 01, "Board and frame table", and 02, Nos. 6 and 10. The
+// The calls on the frame table for callers in C: document 01, "Board and frame table", and 02, Nos. 6 and 10. The
 // board is lent as its 27 words, and recolour, take_back and set_quota alone change it; set_quota is lent the record itself.
 ghost use mathlib.Core.Path.{_≡_};
-ghost use Rattle.calls.specs.Calls.{look as lookCall, fault as faultCall, release as releaseCall, colours as coloursCall, recolour as recolourCall, setQuota, listed};
+ghost use Rattle.lists.specs.Naming.{With};
+ghost use Rattle.calls.specs.Calls.{Outcome, look as lookCall, fault as faultCall, release as releaseCall, colours as coloursCall, recolour as recolourCall, setQuota, listed};
 ghost use Rattle.calls.specs.TakeBack.{takeBack};
 ghost use Rattle.calls.specs.Table.{stateOf};
-ghost use Rattle.marshal.specs.BoardWords.{wordsLeft, lent};
+ghost use Rattle.marshal.specs.BoardWords.{wordsLeft, lentState};
 ghost use Rattle.marshal.specs.Replies.{numberOf, rowOf, valueOf, numberIn, secondIn};
 use board::Board;
 use marshal::active;
@@ -27,10 +28,11 @@ pub extern "C" fn juzvanec_look(
     frame: &mut u32,
     row: &mut u32,
 ) -> u32
-    ensures { λ r. ⌜ r ≡ numberOf ((lookCall (lent (now (board .entry)) (now (table .entry))) domain page) .reply) ⌝ }
-    ensures { λ _. ⌜ now (mapped .exit) ≡ valueOf secondIn ((lookCall (lent (now (board .entry)) (now (table .entry))) domain page) .reply) ⌝ }
-    ensures { λ _. ⌜ now (frame .exit) ≡ valueOf numberIn ((lookCall (lent (now (board .entry)) (now (table .entry))) domain page) .reply) ⌝ }
-    ensures { λ _. ⌜ now (row .exit) ≡ rowOf ((lookCall (lent (now (board .entry)) (now (table .entry))) domain page) .reply) ⌝ }
+    ensures { λ r. ⌜ With (lookCall (lentState (now (board .entry)) (now (table .entry))) domain page) (λ (o : Outcome).
+        (r ≡ numberOf (o .reply))
+        × (now (mapped .exit) ≡ valueOf secondIn (o .reply))
+        × (now (frame .exit) ≡ valueOf numberIn (o .reply))
+        × (now (row .exit) ≡ rowOf (o .reply))) ⌝ }
 {
     let told = looked(frames::look(board_of(board), table, domain, page));
     *mapped = told.second;
@@ -50,11 +52,12 @@ pub extern "C" fn juzvanec_fault(
     frame: &mut u32,
     row: &mut u32,
 ) -> u32
-    ensures { λ r. ⌜ r ≡ numberOf ((faultCall (lent (now (board .entry)) (now (table .entry))) domain page) .reply) ⌝ }
-    ensures { λ _. ⌜ now («is_new» .exit) ≡ valueOf secondIn ((faultCall (lent (now (board .entry)) (now (table .entry))) domain page) .reply) ⌝ }
-    ensures { λ _. ⌜ now (frame .exit) ≡ valueOf numberIn ((faultCall (lent (now (board .entry)) (now (table .entry))) domain page) .reply) ⌝ }
-    ensures { λ _. ⌜ now (row .exit) ≡ rowOf ((faultCall (lent (now (board .entry)) (now (table .entry))) domain page) .reply) ⌝ }
-    ensures { λ _. ⌜ now (table .exit) ≡ (faultCall (lent (now (board .entry)) (now (table .entry))) domain page) .next .table ⌝ }
+    ensures { λ r. ⌜ With (faultCall (lentState (now (board .entry)) (now (table .entry))) domain page) (λ (o : Outcome).
+        (r ≡ numberOf (o .reply))
+        × (now («is_new» .exit) ≡ valueOf secondIn (o .reply))
+        × (now (frame .exit) ≡ valueOf numberIn (o .reply))
+        × (now (row .exit) ≡ rowOf (o .reply))
+        × (now (table .exit) ≡ o .next .table)) ⌝ }
 {
     let told = faulted(frames::fault(board_of(board), table, domain, page));
     *is_new = told.second;
@@ -73,10 +76,11 @@ pub extern "C" fn juzvanec_release(
     frame: &mut u32,
     row: &mut u32,
 ) -> u32
-    ensures { λ r. ⌜ r ≡ numberOf ((releaseCall (lent (now (board .entry)) (now (table .entry))) domain page) .reply) ⌝ }
-    ensures { λ _. ⌜ now (frame .exit) ≡ valueOf numberIn ((releaseCall (lent (now (board .entry)) (now (table .entry))) domain page) .reply) ⌝ }
-    ensures { λ _. ⌜ now (row .exit) ≡ rowOf ((releaseCall (lent (now (board .entry)) (now (table .entry))) domain page) .reply) ⌝ }
-    ensures { λ _. ⌜ now (table .exit) ≡ (releaseCall (lent (now (board .entry)) (now (table .entry))) domain page) .next .table ⌝ }
+    ensures { λ r. ⌜ With (releaseCall (lentState (now (board .entry)) (now (table .entry))) domain page) (λ (o : Outcome).
+        (r ≡ numberOf (o .reply))
+        × (now (frame .exit) ≡ valueOf numberIn (o .reply))
+        × (now (row .exit) ≡ rowOf (o .reply))
+        × (now (table .exit) ≡ o .next .table)) ⌝ }
 {
     let told = released(frames::release(board_of(board), table, domain, page));
     *frame = told.value;
@@ -94,10 +98,11 @@ pub extern "C" fn juzvanec_colours(
     quota: &mut u32,
     row: &mut u32,
 ) -> u32
-    ensures { λ r. ⌜ r ≡ numberOf ((coloursCall (lent (now (board .entry)) (now (table .entry))) domain) .reply) ⌝ }
-    ensures { λ _. ⌜ now (set .exit) ≡ valueOf numberIn ((coloursCall (lent (now (board .entry)) (now (table .entry))) domain) .reply) ⌝ }
-    ensures { λ _. ⌜ now (quota .exit) ≡ valueOf secondIn ((coloursCall (lent (now (board .entry)) (now (table .entry))) domain) .reply) ⌝ }
-    ensures { λ _. ⌜ now (row .exit) ≡ rowOf ((coloursCall (lent (now (board .entry)) (now (table .entry))) domain) .reply) ⌝ }
+    ensures { λ r. ⌜ With (coloursCall (lentState (now (board .entry)) (now (table .entry))) domain) (λ (o : Outcome).
+        (r ≡ numberOf (o .reply))
+        × (now (set .exit) ≡ valueOf numberIn (o .reply))
+        × (now (quota .exit) ≡ valueOf secondIn (o .reply))
+        × (now (row .exit) ≡ rowOf (o .reply))) ⌝ }
 {
     let told = active(frames::colours(board_of(board), table, domain));
     *set = told.value;
@@ -118,14 +123,15 @@ pub extern "C" fn juzvanec_recolour(
     count: &mut u32,
     row: &mut u32,
 ) -> u32
-    ensures { λ r. ⌜ r ≡ numberOf ((recolourCall (lent (now (board .entry)) (now (table .entry))) domain set (now (moves .entry))) .reply) ⌝ }
-    ensures { λ _. ⌜ now (count .exit) ≡ valueOf numberIn ((recolourCall (lent (now (board .entry)) (now (table .entry))) domain set (now (moves .entry))) .reply) ⌝ }
-    ensures { λ _. ⌜ now (row .exit) ≡ rowOf ((recolourCall (lent (now (board .entry)) (now (table .entry))) domain set (now (moves .entry))) .reply) ⌝ }
-    ensures { λ _. ⌜ now (board .exit) ≡ wordsLeft (recolourCall (lent (now (board .entry)) (now (table .entry))) domain set (now (moves .entry))) (now (board .entry)) ⌝ }
-    ensures { λ _. ⌜ now (table .exit) ≡ (recolourCall (lent (now (board .entry)) (now (table .entry))) domain set (now (moves .entry))) .next .table ⌝ }
-    ensures { λ _. ⌜ now (moves .exit) ≡ listed ((recolourCall (lent (now (board .entry)) (now (table .entry))) domain set (now (moves .entry))) .moves) (now (moves .entry)) ⌝ }
+    ensures { λ r. ⌜ With (recolourCall (lentState (now (board .entry)) (now (table .entry))) domain set (now (moves .entry))) (λ (o : Outcome).
+        (r ≡ numberOf (o .reply))
+        × (now (count .exit) ≡ valueOf numberIn (o .reply))
+        × (now (row .exit) ≡ rowOf (o .reply))
+        × (now (board .exit) ≡ wordsLeft o (now (board .entry)))
+        × (now (table .exit) ≡ o .next .table)
+        × (now (moves .exit) ≡ listed (o .moves) (now (moves .entry)))) ⌝ }
 {
-    let done = frames::recolour(board_of(board), table, domain, set, moves);
+    let done = moves::recolour(board_of(board), table, domain, set, moves);
     let answer = done.answer;
     let told = moved(answer);
     write_recoloured(board, answer, domain, set);
@@ -146,13 +152,14 @@ pub extern "C" fn juzvanec_take_back(
     count: &mut u32,
     row: &mut u32,
 ) -> u32
-    ensures { λ r. ⌜ r ≡ numberOf ((takeBack (lent (now (board .entry)) (now (table .entry))) domain set (now (moves .entry))) .reply) ⌝ }
-    ensures { λ _. ⌜ now (count .exit) ≡ valueOf numberIn ((takeBack (lent (now (board .entry)) (now (table .entry))) domain set (now (moves .entry))) .reply) ⌝ }
-    ensures { λ _. ⌜ now (row .exit) ≡ rowOf ((takeBack (lent (now (board .entry)) (now (table .entry))) domain set (now (moves .entry))) .reply) ⌝ }
-    ensures { λ _. ⌜ now (board .exit) ≡ wordsLeft (takeBack (lent (now (board .entry)) (now (table .entry))) domain set (now (moves .entry))) (now (board .entry)) ⌝ }
-    ensures { λ _. ⌜ now (table .exit) ≡ (takeBack (lent (now (board .entry)) (now (table .entry))) domain set (now (moves .entry))) .next .table ⌝ }
+    ensures { λ r. ⌜ With (takeBack (lentState (now (board .entry)) (now (table .entry))) domain set (now (moves .entry))) (λ (o : Outcome).
+        (r ≡ numberOf (o .reply))
+        × (now (count .exit) ≡ valueOf numberIn (o .reply))
+        × (now (row .exit) ≡ rowOf (o .reply))
+        × (now (board .exit) ≡ wordsLeft o (now (board .entry)))
+        × (now (table .exit) ≡ o .next .table)) ⌝ }
 {
-    let done = frames::take_back(board_of(board), table, domain, set, moves);
+    let done = taking_back::take_back(board_of(board), table, domain, set, moves);
     let answer = done.answer;
     let told = moved(answer);
     write_recoloured(board, answer, domain, set);
@@ -171,10 +178,11 @@ pub extern "C" fn juzvanec_set_quota(
     answer: &mut u32,
     row: &mut u32,
 ) -> u32
-    ensures { λ r. ⌜ r ≡ numberOf ((setQuota (stateOf (now (board .entry)) (now (table .entry))) domain quota) .reply) ⌝ }
-    ensures { λ _. ⌜ now (answer .exit) ≡ valueOf numberIn ((setQuota (stateOf (now (board .entry)) (now (table .entry))) domain quota) .reply) ⌝ }
-    ensures { λ _. ⌜ now (row .exit) ≡ rowOf ((setQuota (stateOf (now (board .entry)) (now (table .entry))) domain quota) .reply) ⌝ }
-    ensures { λ _. ⌜ now (board .exit) ≡ (setQuota (stateOf (now (board .entry)) (now (table .entry))) domain quota) .next .board ⌝ }
+    ensures { λ r. ⌜ With (setQuota (stateOf (now (board .entry)) (now (table .entry))) domain quota) (λ (o : Outcome).
+        (r ≡ numberOf (o .reply))
+        × (now (answer .exit) ≡ valueOf numberIn (o .reply))
+        × (now (row .exit) ≡ rowOf (o .reply))
+        × (now (board .exit) ≡ o .next .board)) ⌝ }
 {
     let told = quota_set(frames::set_quota(board, table, domain, quota));
     *answer = told.value;

@@ -1,11 +1,12 @@
 -- The laws of `lists`, for every crate's proofs.
-pub mod Split
-pub mod Kept
-pub mod Sought
-pub mod Found
-pub mod Same
+pub mod CaseSplits
+pub mod PassingNumbers
+pub mod RangeLoops
+pub mod Searches
+pub mod AgreeingTests
 pub mod Members
-pub mod Filter
-pub mod Written
-pub mod Fewest
+pub mod FilteredRange
+pub mod WrittenLists
+pub mod FewestNumber
 pub mod Totals
+pub mod FilledArrays

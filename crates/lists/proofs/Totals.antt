@@ -8,9 +8,9 @@ use mathlib.Core.Logic.{⊎-elim}
 use mathlib.Core.Path.{_≡_, refl}
 use lib.Dec.{eqb}
 use borrow.Author.Tests.{eqb-true, eqb-false}
-use Rattle.lists.specs.Choice.{if_then_else_}
+use Rattle.lists.specs.IfThenElse.{if_then_else_}
 use Rattle.lists.specs.Range.{from, keep, total}
-use Rattle.lists.proofs.Split.{cases}
+use Rattle.lists.proofs.CaseSplits.{cases}
 
 module _ (q : ℕ → Bool) (g h : ℕ → ℕ) where
   pub same-total : (n i : ℕ) → ((x : ℕ) → i ≤ x → x < i + n → h x ≡ g x) → total h (keep q (from i n)) ≡ total g (keep q (from i n))

@@ -2,8 +2,9 @@
 use Prim.Native.Nat.{ℕ, zero, suc, _+_, _-_}
 use mathlib.Core.Bool.{Bool, true, false, not, _&&_, _||_}
 use mathlib.Core.List.{List, [], _∷_}
-use lib.Dec.{ltb}
-use Rattle.lists.specs.Choice.{if_then_else_}
+use lib.Dec.{eqb, ltb}
+use lib.ListN.{getD}
+use Rattle.lists.specs.IfThenElse.{if_then_else_}
 
 -- n numbers from i on: i, i + 1, ..
 unfoldable pub from : ℕ → ℕ → List ℕ
@@ -20,9 +21,13 @@ keep p [] = []
 keep p (x ∷ xs) = let rest = keep p xs in if p x then x ∷ rest else rest
 
 -- whether some member of a list passes a test
-abbrev pub any : (ℕ → Bool) → List ℕ → Bool
-any p [] = false
-any p (x ∷ xs) = p x || any p xs
+abbrev pub anyOf : (ℕ → Bool) → List ℕ → Bool
+anyOf p [] = false
+anyOf p (x ∷ xs) = p x || anyOf p xs
+
+-- whether a list has a number at a place
+abbrev pub isAt : List ℕ → ℕ → ℕ → Bool
+isAt xs x i = eqb (getD xs i 0) x
 
 -- whether a list has no member
 abbrev pub isEmpty : List ℕ → Bool
@@ -49,7 +54,7 @@ total g (x ∷ xs) = g x + total g xs
 
 -- x passes a test, and of the numbers below n that do none has fewer
 unfoldable pub isFewest : (ℕ → Bool) → (ℕ → ℕ) → ℕ → ℕ → Bool
-isFewest p count n x = p x && not (any (λ y. p y && ltb (count y) (count x)) (upto n))
+isFewest p count n x = p x && not (anyOf (λ y. p y && ltb (count y) (count x)) (upto n))
 
 -- the number below n that has the fewest among those that pass a test, the lowest on a tie, or n where none passes
 unfoldable pub fewest : (ℕ → Bool) → (ℕ → ℕ) → ℕ → ℕ

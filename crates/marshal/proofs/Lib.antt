@@ -1,3 +1,3 @@
 -- The laws of `marshal`: the words of a board, and replies that are told.
-pub mod Lent
+pub mod BoardRoundTrip
 pub mod Tellings

@@ -36,5 +36,5 @@ abbrev pub wordsLeft : Outcome → List ℕ → List ℕ
 wordsLeft o words = wordsAfter (o .reply) (o .next .board) words
 
 -- the board and the table that a caller lends
-abbrev pub lent : List ℕ → List ℕ → State
-lent words table = stateOf (boardOf words) table
+abbrev pub lentState : List ℕ → List ℕ → State
+lentState words table = stateOf (boardOf words) table

@@ -3,7 +3,7 @@ use Prim.Native.Nat.{ℕ}
 use mathlib.Core.Path.{_≡_}
 use Rattle.refusal.specs.Reply.{Reply, Answers, Refuses}
 use Rattle.calls.specs.Calls.{Answer, Mapped, Unmapped, Old, New, Freed, Active, Moved, Quota}
-use Rattle.marshal.specs.declared.replies.Told.{Told}
+use Rattle.marshal.specs.declared.replies.ReplyNumbers.{ReplyNumbers}
 
 module _ {A : Type 0} where
   abbrev pub numberOf : Reply A → ℕ
@@ -19,7 +19,7 @@ module _ {A : Type 0} where
   valueOf f (Refuses n r) = 0
 
   -- a struct tells a reply: its number, its row and two numbers of its answer
-  pub record Tells (f g : A → ℕ) (reply : Reply A) (told : Told) : Type 0 where
+  pub record Tells (f g : A → ℕ) (reply : Reply A) (told : ReplyNumbers) : Type 0 where
     pub number : told .number ≡ numberOf reply
     pub row : told .row ≡ rowOf reply
     pub value : told .value ≡ valueOf f reply

@@ -3,7 +3,7 @@
 mod replies;
 mod words;
 
-pub use replies::Told;
+pub use replies::ReplyNumbers;
 pub use replies::active;
 pub use replies::admitted;
 pub use replies::bleached;

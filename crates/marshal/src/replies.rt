@@ -1,7 +1,8 @@
 // What a caller in C is told of an answer: four numbers for each case of it.
 ghost use mathlib.Core.Path.{_≡_};
 ghost use Rattle.colours.specs.Paper.{paperCount, paperLaid, paperBleached};
-ghost use Rattle.frames.specs.Paper.{paperLooked, paperFaulted, paperReleased, paperActive, paperMoved, paperQuota};
+ghost use Rattle.frames.specs.Paper.{paperLooked, paperFaulted, paperReleased, paperActive, paperQuota};
+ghost use Rattle.moves.specs.Paper.{paperMoved};
 ghost use Rattle.admission.specs.Paper.{paperAdmission};
 ghost use Rattle.marshal.specs.Replies.{Tells, itself, nothing, numberIn, secondIn};
 use admission::Admission;
@@ -11,23 +12,23 @@ use colours::Laid;
 use frames::ActiveColours;
 use frames::Faulted;
 use frames::Looked;
-use frames::Moved;
 use frames::QuotaSet;
 use frames::Released;
+use moves::Moved;
 use refusal::Refusal;
 
 // The number and row of a refusal, 0 where a call answers, and two numbers of the answer, 0 on a refusal.
-pub struct Told {
+pub struct ReplyNumbers {
     pub number: u32,
     pub row: u32,
     pub value: u32,
     pub second: u32,
 }
 
-fn answered(value: u32, second: u32) -> Told
+fn answered(value: u32, second: u32) -> ReplyNumbers
     ensures { λ r. ⌜ (r .number ≡ 0) × (r .row ≡ 0) × (r .value ≡ value) × (r .second ≡ second) ⌝ }
 {
-    Told {
+    ReplyNumbers {
         number: 0,
         row: 0,
         value,
@@ -35,10 +36,10 @@ fn answered(value: u32, second: u32) -> Told
     }
 }
 
-fn refused(refusal: Refusal) -> Told
+fn refused(refusal: Refusal) -> ReplyNumbers
     ensures { λ r. ⌜ (r .number ≡ refusal .number) × (r .row ≡ refusal .row) × (r .value ≡ 0) × (r .second ≡ 0) ⌝ }
 {
-    Told {
+    ReplyNumbers {
         number: refusal.number,
         row: refusal.row,
         value: 0,
@@ -46,7 +47,7 @@ fn refused(refusal: Refusal) -> Told
     }
 }
 
-pub fn counted(answer: ColourCount) -> Told
+pub fn counted(answer: ColourCount) -> ReplyNumbers
     ensures { λ r. ⌜ Tells itself nothing (paperCount answer) r ⌝ }
 {
     match answer {
@@ -55,7 +56,7 @@ pub fn counted(answer: ColourCount) -> Told
     }
 }
 
-pub fn laid(answer: Laid) -> Told
+pub fn laid(answer: Laid) -> ReplyNumbers
     ensures { λ r. ⌜ Tells itself nothing (paperLaid answer) r ⌝ }
 {
     match answer {
@@ -64,7 +65,7 @@ pub fn laid(answer: Laid) -> Told
     }
 }
 
-pub fn bleached(answer: Bleached) -> Told
+pub fn bleached(answer: Bleached) -> ReplyNumbers
     ensures { λ r. ⌜ Tells itself nothing (paperBleached answer) r ⌝ }
 {
     match answer {
@@ -73,7 +74,7 @@ pub fn bleached(answer: Bleached) -> Told
     }
 }
 
-pub fn looked(answer: Looked) -> Told
+pub fn looked(answer: Looked) -> ReplyNumbers
     ensures { λ r. ⌜ Tells numberIn secondIn (paperLooked answer) r ⌝ }
 {
     match answer {
@@ -83,7 +84,7 @@ pub fn looked(answer: Looked) -> Told
     }
 }
 
-pub fn faulted(answer: Faulted) -> Told
+pub fn faulted(answer: Faulted) -> ReplyNumbers
     ensures { λ r. ⌜ Tells numberIn secondIn (paperFaulted answer) r ⌝ }
 {
     match answer {
@@ -93,7 +94,7 @@ pub fn faulted(answer: Faulted) -> Told
     }
 }
 
-pub fn released(answer: Released) -> Told
+pub fn released(answer: Released) -> ReplyNumbers
     ensures { λ r. ⌜ Tells numberIn secondIn (paperReleased answer) r ⌝ }
 {
     match answer {
@@ -102,7 +103,7 @@ pub fn released(answer: Released) -> Told
     }
 }
 
-pub fn active(answer: ActiveColours) -> Told
+pub fn active(answer: ActiveColours) -> ReplyNumbers
     ensures { λ r. ⌜ Tells numberIn secondIn (paperActive answer) r ⌝ }
 {
     match answer {
@@ -111,7 +112,7 @@ pub fn active(answer: ActiveColours) -> Told
     }
 }
 
-pub fn moved(answer: Moved) -> Told
+pub fn moved(answer: Moved) -> ReplyNumbers
     ensures { λ r. ⌜ Tells numberIn secondIn (paperMoved answer) r ⌝ }
 {
     match answer {
@@ -120,7 +121,7 @@ pub fn moved(answer: Moved) -> Told
     }
 }
 
-pub fn quota_set(answer: QuotaSet) -> Told
+pub fn quota_set(answer: QuotaSet) -> ReplyNumbers
     ensures { λ r. ⌜ Tells numberIn secondIn (paperQuota answer) r ⌝ }
 {
     match answer {
@@ -129,7 +130,7 @@ pub fn quota_set(answer: QuotaSet) -> Told
     }
 }
 
-pub fn admitted(answer: Admission) -> Told
+pub fn admitted(answer: Admission) -> ReplyNumbers
     ensures { λ r. ⌜ Tells nothing nothing (paperAdmission answer) r ⌝ }
 {
     match answer {

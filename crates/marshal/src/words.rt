@@ -3,10 +3,10 @@
 ghost use mathlib.Core.Path.{_≡_};
 ghost use Prim.Native.Nat.{_≤_};
 ghost use Rattle.calls.specs.Calls.{withActive};
-ghost use Rattle.frames.specs.Paper.{paperMoved};
+ghost use Rattle.moves.specs.Paper.{paperMoved};
 ghost use Rattle.marshal.specs.BoardWords.{wordsFrom, boardOf, wordsAfter};
 use board::Board;
-use frames::Moved;
+use moves::Moved;
 
 // The grants, the active sets or the quotas, from word `at` on.
 fn eight(words: &[u32; 27], at: usize) -> [u32; 8]

@@ -1,6 +1,6 @@
 -- The laws of `pass`.
-pub mod Loops
-pub mod Blocks
-pub mod Turns
-pub mod Going
-pub mod Swept
+pub mod BlockLoops
+pub mod BlockTally
+pub mod BlockSequence
+pub mod PassInvariant
+pub mod SurveyInvariant

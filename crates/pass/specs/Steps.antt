@@ -6,14 +6,15 @@ use mathlib.Core.List.{List}
 use mathlib.Core.Path.{_≡_}
 use lib.Dec.{eqb, ltb}
 use lib.ListN.{length, getD, take}
-use Rattle.lists.specs.Choice.{if_then_else_}
+use Rattle.limits.specs.Limits.{mostFrames}
+use Rattle.lists.specs.IfThenElse.{if_then_else_}
 use Rattle.lists.specs.Range.{upto, keep}
-use Rattle.kept.specs.Kept.{isOwn, zeros, countAll}
+use Rattle.tally.specs.Tally.{isOwn, zeros, LanesAtMost, countAll}
 use Rattle.pass.specs.declared.lanes.Surveyed.{Surveyed}
 
--- a table has at most 4,096 words, and the words of a domain that starts with the highest first word end with 65,535
+-- no table has more words than the most frames, so that those beyond are not read
 abbrev pub read : List ℕ → List ℕ
-read t = take 4096 t
+read t = take mostFrames t
 
 unfoldable pub atMost : ℕ → ℕ → ℕ
 atMost m n = if ltb n m then n else m
@@ -26,7 +27,12 @@ matters xs w free i = eqb (getD xs i 0) w || (eqb (getD xs i 0) 0 && eqb (getD f
 pub record AtBlock (taken filled : ℕ) : Type 0 where
   pub aligned : taken % 16 ≡ 0
   pub few : filled ≤ 16
-  pub counted : taken + filled ≤ 4096
+  pub counted : taken + filled ≤ mostFrames
+
+-- sixteen lanes that have counted no more words than a table has
+pub record LanesFit (lanes : List ℕ) : Type 0 where
+  pub size : 16 ≡ length lanes
+  pub room : LanesAtMost mostFrames lanes
 
 -- how many words are those of the domain with this first word
 unfoldable pub ownIn : ℕ → List ℕ → ℕ

@@ -6,18 +6,21 @@ ghost use mathlib.Core.List.{_++_};
 ghost use Prim.Native.Nat.{ℕ, _+_, _≤_};
 ghost use lib.Dec.{eqb};
 ghost use lib.ListN.{length, getD, take, drop};
-ghost use Rattle.lists.specs.Choice.{if_then_else_};
-ghost use Rattle.lists.specs.Range.{upto, any, lowest};
-ghost use Rattle.kept.specs.Kept.{isOwn, Within, countAll, noteAll, takeAll, soFar, found as foundAt};
-ghost use Rattle.pass.specs.Steps.{matters, AtBlock};
-use kept::Kept;
+ghost use Rattle.limits.specs.Limits.{lastFirst};
+ghost use Rattle.lists.specs.IfThenElse.{if_then_else_};
+ghost use Rattle.lists.specs.Range.{upto, anyOf, lowest};
+ghost use Rattle.tally.specs.Tally.{isOwn, LanesAtMost, countAll, noteAll, takeAll, soFar, found as foundAt};
+ghost use Rattle.pass.specs.Steps.{matters, AtBlock, LanesFit};
+use limits::PAGES;
+use table_words::is_among;
+use tally::Tally;
 
 // 1 where a word is one of the domain's, else 0.
 pub(crate) fn is_own(word: u16, first: u16) -> u16
-    requires { ⌜ first ≤ 61440 ⌝ }
+    requires { ⌜ first ≤ lastFirst ⌝ }
     ensures { λ r. ⌜ r ≡ (if isOwn first word then 1 else 0) ⌝ }
 {
-    if std::num::wrapping_sub_u16(word, first) < 4096 {
+    if is_among(word, first, PAGES as u16) {
         1
     } else {
         0
@@ -34,8 +37,8 @@ pub(crate) fn take_in(
     held: &mut [u16; 16],
     block: &mut [u16; 16],
 ) -> bool
-    requires { ⌜ (length (now words) ≤ 16) × (16 ≡ length (now held)) × (16 ≡ length (now block)) × (first ≤ 61440) × Within 4096 (now held) ⌝ }
-    ensures { λ r. ⌜ r ≡ any (matters (now (words .entry)) word (now (free .entry))) (upto (length (now (words .entry)))) ⌝ }
+    requires { ⌜ (length (now words) ≤ 16) × (first ≤ lastFirst) × LanesFit (now held) × (16 ≡ length (now block)) ⌝ }
+    ensures { λ r. ⌜ r ≡ anyOf (matters (now (words .entry)) word (now (free .entry))) (upto (length (now (words .entry)))) ⌝ }
     ensures { λ r. ⌜ now (held .exit) ≡ countAll (isOwn first) (now (held .entry)) 0 (now (words .entry)) ⌝ }
     ensures { λ r. ⌜ now (block .exit) ≡ now (words .entry) ++ drop (length (now (words .entry))) (now (block .entry)) ⌝ }
 {
@@ -83,10 +86,10 @@ pub(crate) fn note(block: [u16; 16], filled: usize, free: [u16; 16], taken: usiz
 }
 
 // What is kept while the page's word has not come.
-fn so_far(word: u16, first: u16, held: [u16; 16], free: [u16; 16], taken: usize) -> Kept
+fn so_far(word: u16, first: u16, held: [u16; 16], free: [u16; 16], taken: usize) -> Tally
     ensures { λ r. ⌜ r ≡ soFar word first held free taken ⌝ }
 {
-    Kept {
+    Tally {
         word,
         first,
         held,
@@ -97,10 +100,10 @@ fn so_far(word: u16, first: u16, held: [u16; 16], free: [u16; 16], taken: usize)
 }
 
 // What is kept once it has come.
-pub(crate) fn found(word: u16, first: u16, taken: usize) -> Kept
+pub(crate) fn found(word: u16, first: u16, taken: usize) -> Tally
     ensures { λ r. ⌜ r ≡ foundAt word first taken ⌝ }
 {
-    Kept {
+    Tally {
         word,
         first,
         held: [0; 16],
@@ -118,8 +121,8 @@ pub(crate) fn finish(
     held: [u16; 16],
     free: [u16; 16],
     taken: usize,
-) -> Kept
-    requires { ⌜ AtBlock taken (length (now words)) × (first ≤ 61440) × Within taken held ⌝ }
+) -> Tally
+    requires { ⌜ AtBlock taken (length (now words)) × (first ≤ lastFirst) × LanesAtMost taken held ⌝ }
     ensures { λ r. ⌜ r ≡ takeAll (soFar word first held free taken) (now (words .entry)) ⌝ }
 {
     let mut counts = held;

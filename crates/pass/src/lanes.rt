@@ -5,21 +5,39 @@ ghost use mathlib.Core.Path.{_≡_};
 ghost use Prim.Native.Nat.{_≤_};
 ghost use lib.Dec.{eqb};
 ghost use lib.ListN.{length};
-ghost use Rattle.lists.specs.Choice.{if_then_else_};
-ghost use Rattle.kept.specs.Kept.{isOwn, zeros, Within, countAll};
-ghost use Rattle.pass.specs.Steps.{read, atMost, ownIn, surveyOf};
+ghost use Rattle.lists.specs.IfThenElse.{if_then_else_};
+ghost use Rattle.tally.specs.Tally.{isOwn, zeros, countAll};
+ghost use Rattle.limits.specs.Limits.{mostFrames, lastFirst};
+ghost use Rattle.pass.specs.Steps.{read, atMost, LanesFit, ownIn, surveyOf};
 use crate::block::is_own;
+use limits::LAST_FIRST;
+use limits::MOST_FRAMES;
 
 pub struct Surveyed {
     pub held: [u16; 16],
     pub free: [u16; 16],
 }
 
-// The lower of two numbers.
-pub(crate) fn at_most(limit: usize, number: usize) -> usize
-    ensures { λ r. ⌜ r ≡ atMost limit number ⌝ }
+// The first word from which on a domain's words are counted: all of them are words.
+pub(crate) fn low_first(first: u16) -> u16
+    ensures { λ r. ⌜ r ≡ atMost lastFirst first ⌝ }
 {
-    if number < limit { number } else { limit }
+    if first < LAST_FIRST {
+        first
+    } else {
+        LAST_FIRST
+    }
+}
+
+// How many words of a table are read.
+pub(crate) fn words_read(table: &[u16]) -> usize
+    ensures { λ r. ⌜ r ≡ atMost mostFrames (length (now (table .entry))) ⌝ }
+{
+    if table.len() < MOST_FRAMES {
+        table.len()
+    } else {
+        MOST_FRAMES
+    }
 }
 
 // 1 where a word is that of a free frame, else 0.
@@ -32,7 +50,7 @@ fn is_free(word: u16) -> u16
 // Counts the words of a block, all lanes alike, so that the compiler counts them at once. No count reaches 8,192;
 // with the remainder the compiler leaves the order of the words as it is, which is faster.
 fn count_in(words: &[u16], first: u16, held: &mut [u16; 16], free: &mut [u16; 16])
-    requires { ⌜ (length (now words) ≤ 16) × (16 ≡ length (now held)) × (16 ≡ length (now free)) × (first ≤ 61440) × Within 4096 (now held) × Within 4096 (now free) ⌝ }
+    requires { ⌜ (length (now words) ≤ 16) × (first ≤ lastFirst) × LanesFit (now held) × LanesFit (now free) ⌝ }
     ensures { λ r. ⌜ now (held .exit) ≡ countAll (isOwn first) (now (held .entry)) 0 (now (words .entry)) ⌝ }
     ensures { λ r. ⌜ now (free .exit) ≡ countAll (eqb 0) (now (free .entry)) 0 (now (words .entry)) ⌝ }
 {
@@ -47,7 +65,7 @@ fn count_in(words: &[u16], first: u16, held: &mut [u16; 16], free: &mut [u16; 16
 
 // The same of the domain's words alone.
 fn count_held(words: &[u16], first: u16, held: &mut [u16; 16])
-    requires { ⌜ (length (now words) ≤ 16) × (16 ≡ length (now held)) × (first ≤ 61440) × Within 4096 (now held) ⌝ }
+    requires { ⌜ (length (now words) ≤ 16) × (first ≤ lastFirst) × LanesFit (now held) ⌝ }
     ensures { λ r. ⌜ now (held .exit) ≡ countAll (isOwn first) (now (held .entry)) 0 (now (words .entry)) ⌝ }
 {
     let mut i: usize = 0;
@@ -61,10 +79,10 @@ fn count_held(words: &[u16], first: u16, held: &mut [u16; 16])
 // How many words of the table are the domain's, in 16 bits, as the words are, so that the compiler counts many at
 // once.
 pub fn count_own(table: &[u16], first: u16) -> u16
-    ensures { λ r. ⌜ r ≡ ownIn (atMost 61440 first) (read (now (table .entry))) ⌝ }
+    ensures { λ r. ⌜ r ≡ ownIn (atMost lastFirst first) (read (now (table .entry))) ⌝ }
 {
-    let low = at_most(61440, first as usize) as u16;
-    let end = at_most(4096, table.len());
+    let low = low_first(first);
+    let end = words_read(table);
     let mut count: u16 = 0;
     let mut f: usize = 0;
     while f < end {
@@ -76,10 +94,10 @@ pub fn count_own(table: &[u16], first: u16) -> u16
 
 // The lanes of the whole table.
 pub fn survey(table: &[u16], first: u16) -> Surveyed
-    ensures { λ r. ⌜ r ≡ surveyOf (atMost 61440 first) (read (now (table .entry))) ⌝ }
+    ensures { λ r. ⌜ r ≡ surveyOf (atMost lastFirst first) (read (now (table .entry))) ⌝ }
 {
-    let low = at_most(61440, first as usize) as u16;
-    let end = at_most(4096, table.len());
+    let low = low_first(first);
+    let end = words_read(table);
     let mut held = [0u16; 16];
     let mut free = [0u16; 16];
     let mut taken: usize = 0;
@@ -93,10 +111,10 @@ pub fn survey(table: &[u16], first: u16) -> Surveyed
 
 // The domain's words of the whole table by lane.
 pub fn held_lanes(table: &[u16], first: u16) -> [u16; 16]
-    ensures { λ r. ⌜ r ≡ countAll (isOwn (atMost 61440 first)) zeros 0 (read (now (table .entry))) ⌝ }
+    ensures { λ r. ⌜ r ≡ countAll (isOwn (atMost lastFirst first)) zeros 0 (read (now (table .entry))) ⌝ }
 {
-    let low = at_most(61440, first as usize) as u16;
-    let end = at_most(4096, table.len());
+    let low = low_first(first);
+    let end = words_read(table);
     let mut held = [0u16; 16];
     let mut taken: usize = 0;
     while 16 <= end - taken {

@@ -1,31 +1,33 @@
 // The passes over the frame table, in blocks of sixteen frames. That of a fault: document 02, Nos. 2 and 7, the
-// words are taken in upwards, each once; what is kept between two words is `Kept` and the words of the block
+// words are taken in upwards, each once; what is kept between two words is `Tally` and the words of the block
 // under way. And the counts that a quota, a recolouring and a taking back are judged by. Words beyond 4,096 are not read, since no table has
 // them.
 mod block;
 mod lanes;
 
 ghost use mathlib.Core.Path.{_≡_};
-ghost use Rattle.kept.specs.Kept.{start, takeAll};
+ghost use Rattle.tally.specs.Tally.{start, takeAll};
+ghost use Rattle.limits.specs.Limits.{lastFirst};
 ghost use Rattle.pass.specs.Steps.{read, atMost};
 use crate::block::finish;
 use crate::block::found;
 use crate::block::lane_of;
 use crate::block::note;
 use crate::block::take_in;
-use crate::lanes::at_most;
-use kept::Kept;
+use crate::lanes::low_first;
+use crate::lanes::words_read;
 pub use lanes::Surveyed;
 pub use lanes::count_own;
 pub use lanes::held_lanes;
 pub use lanes::survey;
+use tally::Tally;
 
 // What is kept when the words are over, or the page's word has come.
-pub fn go_over(table: &[u16], word: u16, first: u16) -> Kept
-    ensures { λ r. ⌜ r ≡ takeAll (start word (atMost 61440 first)) (read (now (table .entry))) ⌝ }
+pub fn go_over(table: &[u16], word: u16, first: u16) -> Tally
+    ensures { λ r. ⌜ r ≡ takeAll (start word (atMost lastFirst first)) (read (now (table .entry))) ⌝ }
 {
-    let low = at_most(61440, first as usize) as u16;
-    let end = at_most(4096, table.len());
+    let low = low_first(first);
+    let end = words_read(table);
     let mut held = [0u16; 16];
     let mut free = [0u16; 16];
     let mut taken: usize = 0;

@@ -8,9 +8,9 @@ use mathlib.Core.Path.{_≡_, refl, sym, ap, _∙_}
 use lib.Bits.{and-comm}
 use lib.Dec.{eqb, ltb}
 use borrow.Author.Tests.{lt-ltb, le-ltb, ltb-false, eq-eqb, ne-eqb, eqb-true, eqb-false}
-use Rattle.lists.proofs.Split.{cases, below-or-not}
-use Rattle.lists.proofs.Sought.{anyAhead, any-start, any-past}
-use Rattle.lists.proofs.Found.{any-none}
+use Rattle.lists.proofs.CaseSplits.{cases, below-or-not}
+use Rattle.lists.proofs.RangeLoops.{anyAhead, any-start, any-past}
+use Rattle.lists.proofs.Searches.{any-none}
 use Rattle.board.specs.Tests.{shares}
 use Rattle.rows.specs.RowWords.{vcpuOf, colourSet, taskRows}
 use Rattle.plan.specs.Tests.{zeroOrAbove, sharesColour}

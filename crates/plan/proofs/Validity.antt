@@ -11,9 +11,9 @@ use lib.Count.{ones, ones-le}
 use lib.Dec.{eqb, ltb}
 use lib.ListN.{length}
 use borrow.Author.Tests.{ltb-true, ltb-false, lt-ltb, eqb-true, eqb-false, not-false}
-use Rattle.lists.specs.Range.{from, any}
-use Rattle.lists.proofs.Split.{neither}
-use Rattle.lists.proofs.Found.{any-from}
+use Rattle.lists.specs.Range.{from, anyOf}
+use Rattle.lists.proofs.CaseSplits.{neither}
+use Rattle.lists.proofs.Searches.{any-from}
 use Rattle.refusal.specs.Reply.{Test, Answers, test, each}
 use Rattle.refusal.proofs.Replies.{passed-first, answers-passed}
 use Rattle.refusal.proofs.Order.{passed-earlier, passed-later, each-passed}
@@ -21,9 +21,9 @@ use Rattle.colours.proofs.Bits.{ones-pos}
 use Rattle.colours.proofs.Ranges.{count-range, colour-set}
 use Rattle.board.specs.declared.Board.{Board}
 use Rattle.board.specs.Tests.{grant, boardTests, boardReply}
-use Rattle.board.proofs.Passed.{split}
+use Rattle.board.proofs.PassedTests.{split}
 use Rattle.rows.specs.RowWords.{core, domain, vcpuPeriod, budget, vcpuOf, taskPeriod, deadline, colourSet, costWith, cost, vcpuRows, taskRows}
-use Rattle.rows.specs.Valid.{TaskRow, VcpuRow, Ascending, Plan}
+use Rattle.rows.specs.ValidRows.{TaskRow, VcpuRow, AscendingVcpus, Plan}
 use Rattle.plan.specs.Tests.{zeroOrAbove, badTimes, badVcpuWords, badTaskWords, badVcpu, badCost, badFields, badTask, badOrder, sharesColour, rowTests, planTests, planReply}
 
 -- 15 to 19, test by test
@@ -93,7 +93,7 @@ module _ (b : Board) (vcpus tasks : List ℕ) where
     task-row : g < 2 ^ b .colours → b .colours ≤ 16 → TaskRow tasks j
     unfolding cost
     task-row below few =
-        let r = neither (badFields b vcpus tasks j) (any (badCost tasks j) (from 1 16)) e in
+        let r = neither (badFields b vcpus tasks j) (anyOf (badCost tasks j) (from 1 16)) e in
         let v = neither (not (ltb (vcpuOf tasks j) (vcpuRows vcpus))) _ (r .0) in
         let t = neither (badTimes (taskPeriod tasks j) (deadline tasks j)) _ (v .1) in
         let p = neither (zeroOrAbove 1000000 (taskPeriod tasks j)) _ (t .0) in
@@ -115,7 +115,7 @@ module _ (b : Board) (vcpus tasks : List ℕ) where
           cost-high = c .1;
         }
 
-in-order : (tasks : List ℕ) → ((j : ℕ) → j < taskRows tasks → badOrder tasks j ≡ false) → Ascending tasks
+in-order : (tasks : List ℕ) → ((j : ℕ) → j < taskRows tasks → badOrder tasks j ≡ false) → AscendingVcpus tasks
 in-order tasks none j h =
     let back : j + 1 - 1 ≡ j = omega arith in
     let here : badOrder tasks (j + 1) ≡ false = none (j + 1) h in

@@ -4,7 +4,7 @@ use mathlib.Core.Bool.{Bool, not, _&&_, _||_}
 use mathlib.Core.List.{List, _∷_, _++_}
 use lib.Dec.{eqb, ltb}
 use lib.ListN.{length}
-use Rattle.lists.specs.Range.{from, upto, any}
+use Rattle.lists.specs.Range.{from, upto, anyOf}
 use Rattle.refusal.specs.Reply.{Reply, Test, test, each, unless}
 use Rattle.board.specs.declared.Board.{Board}
 use Rattle.board.specs.Tests.{grant, shares, emptyOrOutside}
@@ -42,7 +42,7 @@ badFields b vcpus tasks j =
     || (badTimes (taskPeriod tasks j) (deadline tasks j) || emptyOrOutside (grant b (domain vcpus (vcpuOf tasks j))) (colourSet tasks j))
 
 abbrev pub badTask : Board → List ℕ → List ℕ → ℕ → Bool
-badTask b vcpus tasks j = badFields b vcpus tasks j || any (badCost tasks j) (from 1 16)
+badTask b vcpus tasks j = badFields b vcpus tasks j || anyOf (badCost tasks j) (from 1 16)
 
 -- 19: it names a lower VCPU than the row before
 abbrev pub badOrder : List ℕ → ℕ → Bool
@@ -51,7 +51,7 @@ badOrder tasks j = ltb 0 j && ltb (vcpuOf tasks j) (vcpuOf tasks (j - 1))
 -- 20: it shares a colour with a row of another VCPU
 abbrev pub sharesColour : List ℕ → ℕ → Bool
 sharesColour tasks j =
-    any (λ (k : ℕ). not (eqb (vcpuOf tasks k) (vcpuOf tasks j)) && shares (colourSet tasks j) (colourSet tasks k)) (upto (taskRows tasks))
+    anyOf (λ (k : ℕ). not (eqb (vcpuOf tasks k) (vcpuOf tasks j)) && shares (colourSet tasks j) (colourSet tasks k)) (upto (taskRows tasks))
 
 -- 17 to 20, each over all rows before the next
 unfoldable pub rowTests : Board → List ℕ → List ℕ → List Test

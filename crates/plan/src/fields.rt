@@ -4,7 +4,7 @@ ghost use mathlib.Core.Path.{_≡_};
 ghost use mathlib.Core.Bool.{false};
 ghost use Prim.Native.Nat.{ℕ, _+_, _*_, _<_};
 ghost use lib.ListN.{length};
-ghost use Rattle.lists.specs.Range.{from, any};
+ghost use Rattle.lists.specs.Range.{from, anyOf};
 ghost use Rattle.board.specs.Tests.{grant, emptyOrOutside};
 ghost use Rattle.rows.specs.RowWords.{taskWord, domain, taskRows};
 ghost use Rattle.plan.specs.Tests.{zeroOrAbove, badTimes, badVcpu, badCost, badFields, badTask, badOrder, sharesColour};
@@ -70,7 +70,7 @@ fn known_word(tasks: &[u32], row: u32, k: u32) -> u32
 // the first against the limit, so that no other is above it either.
 fn bad_costs(tasks: &[u32], row: u32) -> bool
     requires { ⌜ row < taskRows (now tasks) ⌝ }
-    ensures { λ r. ⌜ r ≡ any (badCost (now (tasks .entry)) row) (from 1 16) ⌝ }
+    ensures { λ r. ⌜ r ≡ anyOf (badCost (now (tasks .entry)) row) (from 1 16) ⌝ }
 {
     let mut before = LONGEST;
     let mut k: u32 = 1;

@@ -7,11 +7,11 @@ use mathlib.Core.List.{List, [], _∷_, _++_, map, append-nil}
 use mathlib.Core.Path.{_≡_, refl, sym, ap, _∙_}
 use lib.Dec.{ltb}
 use borrow.Author.Tests.{lt-ltb, le-ltb}
-use Rattle.lists.specs.Choice.{if_then_else_}
+use Rattle.lists.specs.IfThenElse.{if_then_else_}
 use Rattle.lists.specs.Range.{from, keep, headOr, lowest, lowestFrom}
-use Rattle.lists.proofs.Split.{cases}
-use Rattle.lists.proofs.Found.{from-on}
-use Rattle.refusal.specs.Reply.{Answers, Refuses, Test, each, unless, passes}
+use Rattle.lists.proofs.CaseSplits.{cases}
+use Rattle.lists.proofs.Searches.{from-on}
+use Rattle.refusal.specs.Reply.{Answers, Refuses, Test, each, unless, also, passes}
 use Rattle.refusal.proofs.Replies.{passed-first}
 
 module _ {A B : Type 0} (a : A) (b : B) where
@@ -32,6 +32,12 @@ module _ {A B : Type 0} (a : A) (b : B) where
   unless-passed [] ys e = refl
   unless-passed (t ∷ ts) ys e =
       cases (t .fails) (λ f. cc (rw f at e)) (λ f. rw f (unless-passed ts ys (rw f at e)))
+
+-- one test more behind a list of tests
+pub unless-also : {A : Type 0} (a : A) (ts : List Test) (t : Test) → unless (ts ++ (t ∷ [])) a ≡ also (unless ts a) t
+unfolding unless also
+unless-also a [] t = refl
+unless-also a (s ∷ ss) t = cases (s .fails) (λ f. rw f) (λ f. rw f (unless-also a ss t))
 
 module _ {A : Type 0} (n number : ℕ) (f : ℕ → Bool) (rest : List Test) (a : A) where
   -- the lowest of the k rows before n

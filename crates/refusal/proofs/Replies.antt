@@ -3,7 +3,7 @@ use mathlib.Core.Bool.{true, false, not}
 use mathlib.Core.List.{List, [], _∷_}
 use mathlib.Core.Path.{_≡_, refl}
 use borrow.Author.Tests.{not-true}
-use Rattle.lists.proofs.Split.{cases, and-both}
+use Rattle.lists.proofs.CaseSplits.{cases, and-both}
 use Rattle.refusal.specs.Reply.{Answers, Test, unless, passes}
 
 -- where no test fails, the first does not, and none of the others

@@ -3,7 +3,7 @@
 use Prim.Native.Nat.{ℕ}
 use mathlib.Core.Bool.{Bool, true, not, _&&_}
 use mathlib.Core.List.{List, [], _∷_, map}
-use Rattle.lists.specs.Choice.{if_then_else_}
+use Rattle.lists.specs.IfThenElse.{if_then_else_}
 use Rattle.lists.specs.Range.{upto}
 
 -- what a call gives back: its answer, or the number and row of a refusal
@@ -29,6 +29,11 @@ each n number fails = map (λ (r : ℕ). record { number = number; row = r; fail
 unfoldable pub unless : {A : Type 0} → List Test → A → Reply A
 unless [] a = Answers a
 unless (t ∷ ts) a = let rest = unless ts a in if t .fails then Refuses (t .number) (t .row) else rest
+
+-- the reply of tests and of one more behind them
+unfoldable pub also : {A : Type 0} → Reply A → Test → Reply A
+also (Answers a) t = if t .fails then Refuses (t .number) (t .row) else Answers a
+also (Refuses n r) t = Refuses n r
 
 -- no test fails
 unfoldable pub passes : List Test → Bool

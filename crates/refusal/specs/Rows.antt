@@ -2,7 +2,7 @@
 use Prim.Native.Nat.{ℕ}
 use mathlib.Core.Bool.{Bool, _&&_}
 use lib.Dec.{leb}
-use Rattle.lists.specs.Choice.{if_then_else_}
+use Rattle.lists.specs.IfThenElse.{if_then_else_}
 use Rattle.refusal.specs.declared.RowNames.{RowNames}
 use Rattle.refusal.specs.declared.RowNames.the-variants.{Domain, PlanRow, Nothing}
 

@@ -1,6 +1,4 @@
 -- The laws of `report`.
-pub mod Decimal
-pub mod Lines
-pub mod Words
+pub mod InputWords
 pub mod Verdict
 pub mod LongInputs

@@ -8,7 +8,7 @@ use mathlib.Core.Path.{_≡_, refl, sym, ap, _∙_}
 use lib.ListN.{length, take}
 use lib.Seq.{take-all, length-take-le}
 use borrow.Author.Tests.{ne-eqb}
-use Rattle.lists.proofs.Split.{cases, below-or-not}
+use Rattle.lists.proofs.CaseSplits.{cases, below-or-not}
 use Rattle.report.specs.Input.{domainCount, vcpuCount, taskCount, planWords, overLimit}
 use Rattle.report.specs.Report.{notAPlan, textOf}
 use Rattle.report.proofs.Verdict.{limits, refused-1}

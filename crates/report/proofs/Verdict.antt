@@ -8,15 +8,15 @@ use lib.Dec.{ltb, eqb}
 use lib.ListN.{length, take, drop}
 use lib.Seq.{take-at, drop-at}
 use borrow.Author.Tests.{lt-ltb, le-ltb, ltb-false, eq-eqb, ne-eqb, eqb-true, not-false}
-use Rattle.lists.proofs.Split.{cases, neither}
+use Rattle.lists.proofs.CaseSplits.{cases, neither}
 use Rattle.refusal.specs.Reply.{Reply, Answers, Refuses, test, unless}
 use Rattle.refusal.proofs.Replies.{answers-passed, passed-first}
-use Rattle.admission.specs.Admission.{room, admissionReply, vcpuTimes, taskTimes, allTimes, timesAfter}
-use Rattle.admission.proofs.Written.{length-vcpu-times, length-task-times}
-use Rattle.report.specs.Input.{domainCount, vcpuCount, taskCount, planWords, overLimit, boardOf, reloadOf, vcpusOf, tasksOf}
-use Rattle.report.specs.Text.{line, refusedName, admittedLines}
+use Rattle.admission.specs.Admission.{roomOf, admissionReply, vcpuTimes, taskTimes, allTimes, Judged, judged}
+use Rattle.admission.proofs.LentLists.{length-vcpu-times, length-task-times}
+use Rattle.report.specs.Input.{domainCount, vcpuCount, taskCount, planWords, overLimit, boardIn, reloadIn, vcpusIn, tasksIn}
+use Rattle.text.specs.Text.{line, refusedName, admittedLines}
 use Rattle.report.specs.Report.{extentReply, notAPlan, verdict, wordsTaken, textOf}
-use Rattle.report.proofs.Words.{length-words}
+use Rattle.report.proofs.InputWords.{length-words}
 
 pub limits : (d v t : ℕ) → (ltb 8 d || ltb 16 v || ltb 32 t) ≡ false → (d ≤ 8) × (v ≤ 16) × (t ≤ 32)
 limits d v t e =
@@ -97,57 +97,60 @@ module _ (input : List ℕ) where
   refused-1 e = (rw e, rw e)
 
   -- as many times as the counts say
-  vcpu-lines : length (vcpuTimes (vcpusOf input)) ≡ vcpuCount input
-  unfolding vcpusOf
-  vcpu-lines = omega (arith, length-vcpu-times (vcpusOf input), length-words input (4 * vcpuCount input) (5 + domainCount input))
+  vcpu-lines : length (vcpuTimes (vcpusIn input)) ≡ vcpuCount input
+  unfolding vcpusIn
+  vcpu-lines = omega (arith, length-vcpu-times (vcpusIn input), length-words input (4 * vcpuCount input) (5 + domainCount input))
 
-  task-lines : length (taskTimes (reloadOf input) (vcpusOf input) (tasksOf input)) ≡ taskCount input
-  unfolding tasksOf
+  task-lines : length (taskTimes (reloadIn input) (vcpusIn input) (tasksIn input)) ≡ taskCount input
+  unfolding tasksIn
   task-lines =
-      omega (arith, length-task-times (reloadOf input) (vcpusOf input) (tasksOf input), length-words input (20 * taskCount input) (6 + domainCount input + 4 * vcpuCount input))
+      omega (arith, length-task-times (reloadIn input) (vcpusIn input) (tasksIn input), length-words input (20 * taskCount input) (6 + domainCount input + 4 * vcpuCount input))
 
   -- a plan: its verdict is that of admission
   module _ (plan : notAPlan input ≡ false) where
-    abbrev judged : Reply (Unit {0})
-    judged = admissionReply (boardOf input) (reloadOf input) (vcpusOf input) (tasksOf input) 48
+    abbrev reply : Reply (Unit {0})
+    reply = admissionReply (boardIn input) (reloadIn input) (vcpusIn input) (tasksIn input) 48
 
-    pub as-judged : verdict input ≡ judged
+    pub as-judged : verdict input ≡ reply
     unfolding verdict
     as-judged = rw plan
 
-    pub refused-text : (n r : ℕ) → judged ≡ Refuses n r → textOf input ≡ line refusedName n r
+    pub refused-text : (n r : ℕ) → reply ≡ Refuses n r → textOf input ≡ line refusedName n r
     unfolding textOf
     refused-text n r e = rw (as-judged ∙ e)
 
-    admitted-text : judged ≡ Answers tt → textOf input ≡ admittedLines (vcpuTimes (vcpusOf input)) (taskTimes (reloadOf input) (vcpusOf input) (tasksOf input))
+    admitted-text : reply ≡ Answers tt → textOf input ≡ admittedLines (vcpuTimes (vcpusIn input)) (taskTimes (reloadIn input) (vcpusIn input) (tasksIn input))
     unfolding textOf
     admitted-text e = rw (as-judged ∙ e)
 
     -- two lists of 48 words have that room
-    pub roomy : (lent rounds : List ℕ) → length lent ≡ 48 → length rounds ≡ 48
-        → admissionReply (boardOf input) (reloadOf input) (vcpusOf input) (tasksOf input) (room lent rounds) ≡ judged
-    roomy lent rounds h g =
-        let both : room lent rounds ≡ 48 = omega (arith, h, g) in
-        ap (λ (n : ℕ). admissionReply (boardOf input) (reloadOf input) (vcpusOf input) (tasksOf input) n) both
+    abbrev done : List ℕ → List ℕ → Judged
+    done lent rounds = judged (boardIn input) (reloadIn input) (vcpusIn input) (tasksIn input) lent rounds
+
+    pub judged-reply : (lent rounds : List ℕ) → length lent ≡ 48 → length rounds ≡ 48 → done lent rounds .reply ≡ reply
+    unfolding judged
+    judged-reply lent rounds h g =
+        let both : roomOf lent rounds ≡ 48 = omega (arith, h, g) in
+        ap (λ (n : ℕ). admissionReply (boardIn input) (reloadIn input) (vcpusIn input) (tasksIn input) n) both
 
     -- the times in front of the list are those of VCPUs and then of tasks
-    times-read : (lent rounds times : List ℕ) → length lent ≡ 48 → length rounds ≡ 48 → judged ≡ Answers tt
-        → times ≡ timesAfter (boardOf input) (reloadOf input) (vcpusOf input) (tasksOf input) lent rounds
-        → (take (vcpuCount input) times ≡ vcpuTimes (vcpusOf input)) × (take (taskCount input) (drop (vcpuCount input) times) ≡ taskTimes (reloadOf input) (vcpusOf input) (tasksOf input))
-    unfolding timesAfter allTimes
+    times-read : (lent rounds times : List ℕ) → length lent ≡ 48 → length rounds ≡ 48 → reply ≡ Answers tt
+        → times ≡ done lent rounds .times
+        → (take (vcpuCount input) times ≡ vcpuTimes (vcpusIn input)) × (take (taskCount input) (drop (vcpuCount input) times) ≡ taskTimes (reloadIn input) (vcpusIn input) (tasksIn input))
+    unfolding judged allTimes
     times-read lent rounds times h g e t =
-        let vcpus : List ℕ = vcpuTimes (vcpusOf input) in
-        let tasks : List ℕ = taskTimes (reloadOf input) (vcpusOf input) (tasksOf input) in
+        let vcpus : List ℕ = vcpuTimes (vcpusIn input) in
+        let tasks : List ℕ = taskTimes (reloadIn input) (vcpusIn input) (tasksIn input) in
         let rest : List ℕ = drop (length (vcpus ++ tasks)) lent in
-        let all : times ≡ vcpus ++ (tasks ++ rest) = t ∙ rw (roomy lent rounds h g ∙ e) (append-assoc vcpus tasks rest) in (
+        let all : times ≡ vcpus ++ (tasks ++ rest) = t ∙ rw (judged-reply lent rounds h g ∙ e) (append-assoc vcpus tasks rest) in (
           ap (λ (l : List ℕ). take (vcpuCount input) l) all ∙ take-at vcpus (tasks ++ rest) (vcpuCount input) vcpu-lines,
           ap (λ (l : List ℕ). take (taskCount input) (drop (vcpuCount input) l)) all
               ∙ ap (λ (l : List ℕ). take (taskCount input) l) (drop-at vcpus (tasks ++ rest) (vcpuCount input) vcpu-lines)
               ∙ take-at tasks rest (taskCount input) task-lines,
         )
 
-    pub times-told : (lent rounds times : List ℕ) (v t : ℕ) → length lent ≡ 48 → length rounds ≡ 48 → judged ≡ Answers tt
-        → times ≡ timesAfter (boardOf input) (reloadOf input) (vcpusOf input) (tasksOf input) lent rounds
+    pub times-told : (lent rounds times : List ℕ) (v t : ℕ) → length lent ≡ 48 → length rounds ≡ 48 → reply ≡ Answers tt
+        → times ≡ done lent rounds .times
         → v ≡ vcpuCount input → t ≡ taskCount input → admittedLines (take v times) (take t (drop v times)) ≡ textOf input
     times-told lent rounds times v t h g e w hv ht =
         let read = times-read lent rounds times h g e w in

@@ -10,22 +10,22 @@ use Rattle.board.specs.declared.Board.{Board}
 use Rattle.board.specs.Tests.{firstQuotas}
 
 -- word k of the input, its lowest byte first
-unfoldable pub word : List ℕ → ℕ → ℕ
-word input k =
+unfoldable pub wordIn : List ℕ → ℕ → ℕ
+wordIn input k =
     getD input (4 * k) 0 + 256 * getD input (4 * k + 1) 0 + 65536 * getD input (4 * k + 2) 0 + 16777216 * getD input (4 * k + 3) 0
 
 -- n words from word k on
-unfoldable pub words : List ℕ → ℕ → ℕ → List ℕ
-words input k n = map (word input) (from k n)
+unfoldable pub wordsIn : List ℕ → ℕ → ℕ → List ℕ
+wordsIn input k n = map (wordIn input) (from k n)
 
 unfoldable pub domainCount : List ℕ → ℕ
-domainCount input = word input 2
+domainCount input = wordIn input 2
 
 unfoldable pub vcpuCount : List ℕ → ℕ
-vcpuCount input = word input (4 + domainCount input)
+vcpuCount input = wordIn input (4 + domainCount input)
 
 unfoldable pub taskCount : List ℕ → ℕ
-taskCount input = word input (5 + domainCount input + 4 * vcpuCount input)
+taskCount input = wordIn input (5 + domainCount input + 4 * vcpuCount input)
 
 -- how many words the counts say that the plan has
 unfoldable pub planWords : List ℕ → ℕ
@@ -37,24 +37,24 @@ overLimit input = ltb 8 (domainCount input) || ltb 16 (vcpuCount input) || ltb 3
 
 -- the grants are also active; fields beyond the count are 0, and no test reads them
 unfoldable pub grants : List ℕ → List ℕ
-grants input = words input 3 (domainCount input) ++ replicate (8 - domainCount input) 0
+grants input = wordsIn input 3 (domainCount input) ++ replicate (8 - domainCount input) 0
 
-unfoldable pub boardOf : List ℕ → Board
-boardOf input =
+unfoldable pub boardIn : List ℕ → Board
+boardIn input =
     record {
-      colours = word input 0;
-      frames = word input 1;
+      colours = wordIn input 0;
+      frames = wordIn input 1;
       domains = domainCount input;
       grants = grants input;
       active = grants input;
       quotas = firstQuotas;
     }
 
-unfoldable pub reloadOf : List ℕ → ℕ
-reloadOf input = word input (3 + domainCount input)
+unfoldable pub reloadIn : List ℕ → ℕ
+reloadIn input = wordIn input (3 + domainCount input)
 
-unfoldable pub vcpusOf : List ℕ → List ℕ
-vcpusOf input = words input (5 + domainCount input) (4 * vcpuCount input)
+unfoldable pub vcpusIn : List ℕ → List ℕ
+vcpusIn input = wordsIn input (5 + domainCount input) (4 * vcpuCount input)
 
-unfoldable pub tasksOf : List ℕ → List ℕ
-tasksOf input = words input (6 + domainCount input + 4 * vcpuCount input) (20 * taskCount input)
+unfoldable pub tasksIn : List ℕ → List ℕ
+tasksIn input = wordsIn input (6 + domainCount input + 4 * vcpuCount input) (20 * taskCount input)

@@ -1,5 +1,4 @@
--- The definitions of `report`: the words of the input, the lines of the output, and what the program answers to an input.
+-- The definitions of `report`: the words of the input, and what the program answers to an input.
 pub mod Input
-pub mod Text
 pub mod Report
 pub mod Paper

@@ -4,11 +4,11 @@ use mathlib.Core.Bool.{Bool, not, _||_}
 use mathlib.Core.List.{List, [], _∷_}
 use lib.Dec.{ltb, eqb}
 use lib.ListN.{length}
-use Rattle.lists.specs.Choice.{if_then_else_}
+use Rattle.lists.specs.IfThenElse.{if_then_else_}
 use Rattle.refusal.specs.Reply.{Reply, Answers, Refuses, test, unless}
 use Rattle.admission.specs.Admission.{admissionReply, vcpuTimes, taskTimes}
-use Rattle.report.specs.Input.{planWords, overLimit, boardOf, reloadOf, vcpusOf, tasksOf}
-use Rattle.report.specs.Text.{line, refusedName, admittedLines}
+use Rattle.report.specs.Input.{planWords, overLimit, boardIn, reloadIn, vcpusIn, tasksIn}
+use Rattle.text.specs.Text.{line, refusedName, admittedLines}
 
 -- the plan in front of an input, which may go on after it: how many words it takes, or 1
 unfoldable pub extentReply : List ℕ → Reply ℕ
@@ -21,7 +21,7 @@ notAPlan input = overLimit input || not (eqb (length input) (4 * planWords input
 -- the verdict; 48 words are room for the times of all rows
 unfoldable pub verdict : List ℕ → Reply (Unit {0})
 verdict input =
-    if notAPlan input then Refuses 1 0 else admissionReply (boardOf input) (reloadOf input) (vcpusOf input) (tasksOf input) 48
+    if notAPlan input then Refuses 1 0 else admissionReply (boardIn input) (reloadIn input) (vcpusIn input) (tasksIn input) 48
 
 -- the words that the plan took
 unfoldable pub wordsTaken : List ℕ → ℕ
@@ -34,4 +34,4 @@ linesOf (Refuses number row) vcpus tasks = line refusedName number row
 
 -- what is printed
 unfoldable pub textOf : List ℕ → List ℕ
-textOf input = linesOf (verdict input) (vcpuTimes (vcpusOf input)) (taskTimes (reloadOf input) (vcpusOf input) (tasksOf input))
+textOf input = linesOf (verdict input) (vcpuTimes (vcpusIn input)) (taskTimes (reloadIn input) (vcpusIn input) (tasksIn input))

@@ -2,15 +2,16 @@
 ghost use mathlib.Core.Path.{_≡_};
 ghost use Prim.Native.Nat.{_<_, _≤_};
 ghost use lib.ListN.{length, getD, replicate};
-ghost use Rattle.admission.specs.Admission.{room, admissionReply, timesAfter, roundsAfter};
+ghost use Rattle.admission.specs.Admission.{leaving, judged};
 ghost use Rattle.admission.specs.Paper.{paperAdmission};
-ghost use Rattle.report.specs.Input.{word as wordOf, words as wordsOf, domainCount, vcpuCount, taskCount, boardOf, reloadOf, vcpusOf, tasksOf};
+ghost use Rattle.report.specs.Input.{wordIn, wordsIn, domainCount, vcpuCount, taskCount, boardIn, reloadIn, vcpusIn, tasksIn};
 use admission::Admission;
 use admission::admit_plan;
 use board::Board;
 use board::first_quotas;
 use rows::TASK_WORDS;
 use rows::VCPU_WORDS;
+use text::MOST_ROWS;
 
 // What the counts of an input say, whether or not it is as long as they say.
 pub(crate) struct Rows {
@@ -33,9 +34,9 @@ fn byte(input: &[u8], i: usize) -> u32
 }
 
 // No index wraps: word counts are 32-bit numbers, so that k stays far below 2^62.
-fn word(input: &[u8], k: usize) -> u32
+fn word_in(input: &[u8], k: usize) -> u32
     requires { ⌜ k < 1000000000000000000 ⌝ }
-    ensures { λ r. ⌜ r ≡ wordOf (now (input .entry)) k ⌝ }
+    ensures { λ r. ⌜ r ≡ wordIn (now (input .entry)) k ⌝ }
 {
     let i = 4 * k;
     byte(input, i)
@@ -47,9 +48,9 @@ fn word(input: &[u8], k: usize) -> u32
 pub(crate) fn count_rows(input: &[u8]) -> Rows
     ensures { λ r. ⌜ (r .domains ≡ domainCount (now (input .entry))) × (r .vcpus ≡ vcpuCount (now (input .entry))) × (r .tasks ≡ taskCount (now (input .entry))) ⌝ }
 {
-    let domains = word(input, 2) as usize;
-    let vcpus = word(input, 4 + domains) as usize;
-    let tasks = word(input, 5 + domains + VCPU_WORDS * vcpus) as usize;
+    let domains = word_in(input, 2) as usize;
+    let vcpus = word_in(input, 4 + domains) as usize;
+    let tasks = word_in(input, 5 + domains + VCPU_WORDS * vcpus) as usize;
     Rows {
         domains,
         vcpus,
@@ -60,11 +61,11 @@ pub(crate) fn count_rows(input: &[u8]) -> Rows
 // The words of the input from word k on fill the list.
 fn read_words(input: &[u8], k: usize, list: &mut [u32])
     requires { ⌜ (k < 1000000) × (length (now list) < 1000000) ⌝ }
-    ensures { λ r. ⌜ now (list .exit) ≡ wordsOf (now (input .entry)) k (length (now (list .entry))) ⌝ }
+    ensures { λ r. ⌜ now (list .exit) ≡ wordsIn (now (input .entry)) k (length (now (list .entry))) ⌝ }
 {
     let mut i = 0;
     while i < list.len() {
-        list[i] = word(input, k + i);
+        list[i] = word_in(input, k + i);
         i += 1;
     }
 }
@@ -83,10 +84,10 @@ fn task_space() -> [u32; 640]
 }
 
 // A word for each row.
-pub(crate) fn row_space() -> [u32; 48]
+pub(crate) fn row_space() -> [u32; MOST_ROWS]
     ensures { λ r. ⌜ 48 ≡ length r ⌝ }
 {
-    [0; 48]
+    [0; MOST_ROWS]
 }
 
 fn no_grants() -> [u32; 8]
@@ -97,13 +98,13 @@ fn no_grants() -> [u32; 8]
 
 fn read_board(input: &[u8], domains: usize) -> Board
     requires { ⌜ (domains ≡ domainCount (now input)) × (domains ≤ 8) ⌝ }
-    ensures { λ r. ⌜ r ≡ boardOf (now (input .entry)) ⌝ }
+    ensures { λ r. ⌜ r ≡ boardIn (now (input .entry)) ⌝ }
 {
     let mut grants = no_grants();
     read_words(input, 3, &mut grants[..domains]);
     Board {
-        colours: word(input, 0),
-        frames: word(input, 1),
+        colours: word_in(input, 0),
+        frames: word_in(input, 1),
         domains: domains as u32,
         grants,
         active: grants,
@@ -117,13 +118,11 @@ pub(crate) fn judge(input: &[u8], rows: Rows, times: &mut [u32], rounds: &mut [u
     requires { ⌜ (rows .domains ≡ domainCount (now input)) × (rows .domains ≤ 8) ⌝ }
     requires { ⌜ (rows .vcpus ≡ vcpuCount (now input)) × (rows .vcpus ≤ 16) ⌝ }
     requires { ⌜ (rows .tasks ≡ taskCount (now input)) × (rows .tasks ≤ 32) ⌝ }
-    ensures { λ r. ⌜ paperAdmission r ≡ admissionReply (boardOf (now (input .entry))) (reloadOf (now (input .entry))) (vcpusOf (now (input .entry))) (tasksOf (now (input .entry))) (room (now (times .entry)) (now (rounds .entry))) ⌝ }
-    ensures { λ r. ⌜ now (times .exit) ≡ timesAfter (boardOf (now (input .entry))) (reloadOf (now (input .entry))) (vcpusOf (now (input .entry))) (tasksOf (now (input .entry))) (now (times .entry)) (now (rounds .entry)) ⌝ }
-    ensures { λ r. ⌜ now (rounds .exit) ≡ roundsAfter (boardOf (now (input .entry))) (reloadOf (now (input .entry))) (vcpusOf (now (input .entry))) (tasksOf (now (input .entry))) (now (times .entry)) (now (rounds .entry)) ⌝ }
+    ensures { λ r. ⌜ leaving (paperAdmission r) (now (times .exit)) (now (rounds .exit)) ≡ judged (boardIn (now (input .entry))) (reloadIn (now (input .entry))) (vcpusIn (now (input .entry))) (tasksIn (now (input .entry))) (now (times .entry)) (now (rounds .entry)) ⌝ }
 {
     let domains = rows.domains;
     let board = read_board(input, domains);
-    let reload = word(input, 3 + domains);
+    let reload = word_in(input, 3 + domains);
     let vcpu_words = VCPU_WORDS * rows.vcpus;
     let mut first = vcpu_space();
     let vcpus = &mut first[..vcpu_words];

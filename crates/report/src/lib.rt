@@ -2,7 +2,6 @@
 // the recorder", and refusal 1. `answer` is what the program calls, and `report` answers an input of any length;
 // `plan_extent` says how many words the plan in front of an input takes, for callers that read several in a row.
 mod input;
-mod text;
 
 ghost use mathlib.Core.Path.{_≡_};
 ghost use Prim.Native.Nat.{ℕ, _≤_};
@@ -13,25 +12,24 @@ ghost use lib.ListN.{length, take};
 ghost use Rattle.admission.specs.Paper.{paperAdmission};
 ghost use Rattle.report.specs.Paper.{paperExtent};
 ghost use Rattle.report.specs.Report.{extentReply, notAPlan, verdict, wordsTaken, textOf};
-ghost use Rattle.report.specs.Text.{over};
+ghost use Rattle.text.specs.Text.{over};
 use crate::input::count_rows;
 use crate::input::judge;
 use crate::input::row_space;
-use crate::text::write_admitted;
-use crate::text::write_refused;
 use admission::Admission;
 use refusal::Refusal;
 use rows::TASK_WORDS;
 use rows::VCPU_WORDS;
+use text::MOST_TASKS;
+use text::MOST_VCPUS;
+use text::TEXT_BYTES;
+use text::write_admitted;
+use text::write_refused;
 
 // The longest plan has 718 words. One byte more tells an input that is too long, whatever follows it.
 pub const INPUT_BYTES: usize = 2873;
 
 const MOST_DOMAINS: usize = 8;
-
-const MOST_VCPUS: usize = 16;
-
-const MOST_TASKS: usize = 32;
 
 pub enum Extent {
     Words(u32),
@@ -77,7 +75,7 @@ pub fn plan_extent(input: &[u8]) -> Extent
 
 // The answer to a whole input. The text stands in front of the lent bytes, and the rest of them is as it
 // was.
-pub fn report(input: &[u8], text: &mut [u8; 1024]) -> Reported
+pub fn report(input: &[u8], text: &mut [u8; TEXT_BYTES]) -> Reported
     ensures { λ r. ⌜ paperAdmission (r .verdict) ≡ verdict (now (input .entry)) ⌝ }
     ensures { λ r. ⌜ (r .words ≡ wordsTaken (now (input .entry))) × (r .length ≡ length (textOf (now (input .entry)))) × (r .length ≤ length (now (text .exit))) ⌝ }
     ensures { λ r. ⌜ now (text .exit) ≡ over (textOf (now (input .entry))) (now (text .entry)) ⌝ }
@@ -97,7 +95,7 @@ pub fn report(input: &[u8], text: &mut [u8; 1024]) -> Reported
 // bytes, and the text's length. `read` says how many bytes these are, and a number beyond the array means all of
 // it. The last clause says that the rest of the input does not matter: an input that is longer than the array
 // has the same text, whatever follows.
-pub fn answer(input: &[u8; INPUT_BYTES], read: usize, text: &mut [u8; 1024]) -> usize
+pub fn answer(input: &[u8; INPUT_BYTES], read: usize, text: &mut [u8; TEXT_BYTES]) -> usize
     ensures { λ r. ⌜ (r ≡ length (textOf (take read (now (input .entry))))) × (r ≤ length (now (text .exit))) ⌝ }
     ensures { λ r. ⌜ now (text .exit) ≡ over (textOf (take read (now (input .entry)))) (now (text .entry)) ⌝ }
     ensures { λ r. ⌜ ((whole : List ℕ) → take (length (now (input .entry))) whole ≡ take read (now (input .entry)) → textOf whole ≡ textOf (take read (now (input .entry)))) ⌝ }
@@ -123,8 +121,8 @@ fn whole_plan(input: &[u8]) -> u32
     }
 }
 
-fn report_plan(input: &[u8], words: u32, text: &mut [u8]) -> Reported
-    requires { ⌜ (notAPlan (now input) ≡ false) × (words ≡ wordsTaken (now input)) × (1024 ≡ length (now text)) ⌝ }
+fn report_plan(input: &[u8], words: u32, text: &mut [u8; TEXT_BYTES]) -> Reported
+    requires { ⌜ (notAPlan (now input) ≡ false) × (words ≡ wordsTaken (now input)) ⌝ }
     ensures { λ r. ⌜ paperAdmission (r .verdict) ≡ verdict (now (input .entry)) ⌝ }
     ensures { λ r. ⌜ (r .words ≡ wordsTaken (now (input .entry))) × (r .length ≡ length (textOf (now (input .entry)))) × (r .length ≤ length (now (text .exit))) ⌝ }
     ensures { λ r. ⌜ now (text .exit) ≡ over (textOf (now (input .entry))) (now (text .entry)) ⌝ }

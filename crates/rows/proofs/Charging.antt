@@ -10,10 +10,10 @@ use lib.Count.{ones}
 use lib.ListN.{length, getD, set, replicate, getD-replicate, length-set, List·getD-eq-default}
 use lib.Seq.{ext-getD, getD-set-same, getD-set-other}
 use borrow.Author.Tests.{lt-ltb, le-ltb}
-use Rattle.lists.proofs.Split.{below-or-not}
-use Rattle.lists.proofs.Written.{length-table, table-entry}
+use Rattle.lists.proofs.CaseSplits.{below-or-not}
+use Rattle.lists.proofs.WrittenLists.{length-table, table-entry}
 use Rattle.rows.specs.RowWords.{colourSet, cost}
-use Rattle.rows.specs.Reload.{heldFrom, reloadedSet, reloaded, charge, plannedRow, charges}
+use Rattle.rows.specs.Reload.{heldFrom, reloadedSet, reloaded, arrivalCharge, plannedRow, charges}
 
 -- the colours reloaded, by any wording of the definition that means this
 pub reloaded-is : (tasks : List ℕ) (i j : ℕ) → reloaded tasks i j ≡ ones (bitAnd (colourSet tasks j) (heldFrom tasks (suc j) (i - j)))
@@ -24,8 +24,8 @@ reloaded-is tasks i j =
     cc (next, again, and-comm (colourSet tasks j) (heldFrom tasks (suc j) (i - j)))
 
 charge-is : (reload : ℕ) (tasks : List ℕ) (i j : ℕ)
-    → charge reload tasks i j ≡ cost tasks j + reload * ones (bitAnd (colourSet tasks j) (heldFrom tasks (suc j) (i - j)))
-unfolding charge
+    → arrivalCharge reload tasks i j ≡ cost tasks j + reload * ones (bitAnd (colourSet tasks j) (heldFrom tasks (suc j) (i - j)))
+unfolding arrivalCharge
 charge-is reload tasks i j = ap (λ (n : ℕ). cost tasks j + reload * n) (reloaded-is tasks i j)
 
 -- no charge is written yet
@@ -53,7 +53,7 @@ module _ (reload : ℕ) (tasks : List ℕ) (i : ℕ) where
     pub few : row < 32
     pub union : held ≡ heldFrom tasks j (suc (row - j))
     pub room : length found ≡ 32
-    pub passed : (k : ℕ) → j ≤ k → k < row → getD found k 0 ≡ charge reload tasks row k
+    pub passed : (k : ℕ) → j ≤ k → k < row → getD found k 0 ≡ arrivalCharge reload tasks row k
     pub rest : (k : ℕ) → row ≤ k → getD found k 0 ≡ 0
 
   pub charging-start : (held j : ℕ) → j ≡ row → held ≡ colourSet tasks j → Charging held j none
@@ -99,6 +99,6 @@ module _ (reload : ℕ) (tasks : List ℕ) (i : ℕ) where
       (λ h. c .rest k h ∙ sym (table-entry _ 32 0 k (omega (arith, c .room)) ∙ rw (zero-add k, le-ltb k row h) refl)))
 
   -- the charge of a row before row i
-  pub charge-kept : i < 32 → (k : ℕ) → k < i → getD (charges reload tasks i) k 0 ≡ charge reload tasks i k
+  pub charge-kept : i < 32 → (k : ℕ) → k < i → getD (charges reload tasks i) k 0 ≡ arrivalCharge reload tasks i k
   unfolding charges
   charge-kept few k h = table-entry _ 32 0 k (omega arith) ∙ rw (zero-add k, planned-is i few, lt-ltb k i h) refl

@@ -11,12 +11,12 @@ use lib.ListN.{length, getD, take, drop, length-drop}
 use lib.Seq.{length-take-le, getD-take, getD-drop}
 use borrow.Author.Tests.{eqb-true, eqb-false, eq-eqb, ne-eqb, not-true, not-false}
 use Rattle.lists.specs.Range.{lowestFrom}
-use Rattle.lists.proofs.Split.{below-or-not}
-use Rattle.lists.proofs.Sought.{sought-end}
-use Rattle.lists.proofs.Found.{found, missed, sought-past, sought-le}
+use Rattle.lists.proofs.CaseSplits.{below-or-not}
+use Rattle.lists.proofs.RangeLoops.{sought-end}
+use Rattle.lists.proofs.Searches.{found, missed, sought-past, sought-le}
 use Rattle.rows.specs.RowWords.{taskWord, vcpuOf, colourSet, cost, taskRows}
 use Rattle.rows.specs.Part.{isRowOf, nextOwn, nextOther, partStart, partEnd, rowsFrom, partFrom, partOf}
-use Rattle.rows.specs.Valid.{TaskRow, Tasks, Ascending}
+use Rattle.rows.specs.ValidRows.{TaskRow, Tasks, AscendingVcpus}
 
 module _ (p : ℕ → Bool) (i n : ℕ) where
   -- a search goes no lower than it starts
@@ -139,7 +139,7 @@ module _ (tasks : List ℕ) (v : ℕ) where
         row = λ i l. (let h : i < count = omega (arith, part-rows) in part-row i h (t .row _ (omega (arith, end-le))));
       }
 
-module _ (tasks : List ℕ) (ascending : Ascending tasks) where
+module _ (tasks : List ℕ) (ascending : AscendingVcpus tasks) where
   climbs : (k i : ℕ) → i + k < taskRows tasks → vcpuOf tasks i ≤ vcpuOf tasks (i + k)
   climbs zero i h = let same : i + 0 ≡ i = omega arith in rw same (le-refl (vcpuOf tasks i))
   climbs (suc k) i h =

@@ -2,4 +2,4 @@
 pub mod RowWords
 pub mod Reload
 pub mod Part
-pub mod Valid
+pub mod ValidRows

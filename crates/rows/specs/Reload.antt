@@ -5,7 +5,7 @@ use mathlib.Core.List.{List, map}
 use lib.Bits.{bitAnd, bitOr}
 use lib.Count.{ones}
 use lib.Dec.{ltb}
-use Rattle.lists.specs.Choice.{if_then_else_}
+use Rattle.lists.specs.IfThenElse.{if_then_else_}
 use Rattle.lists.specs.Range.{upto}
 use Rattle.rows.specs.RowWords.{colourSet, cost}
 
@@ -23,8 +23,8 @@ unfoldable pub reloaded : List ℕ → ℕ → ℕ → ℕ
 reloaded tasks i j = ones (reloadedSet tasks i j)
 
 -- an arrival of task j charges task i its cost and the reload of these colours
-unfoldable pub charge : ℕ → List ℕ → ℕ → ℕ → ℕ
-charge reload tasks i j = cost tasks j + reload * reloaded tasks i j
+unfoldable pub arrivalCharge : ℕ → List ℕ → ℕ → ℕ → ℕ
+arrivalCharge reload tasks i j = cost tasks j + reload * reloaded tasks i j
 
 -- a row that a plan may have, or row 0, which no row comes before
 unfoldable pub plannedRow : ℕ → ℕ
@@ -34,4 +34,4 @@ plannedRow i = if ltb i 32 then i else 0
 unfoldable pub charges : ℕ → List ℕ → ℕ → List ℕ
 charges reload tasks i =
     let row = plannedRow i in
-    map (λ (j : ℕ). if ltb j row then charge reload tasks row j else 0) (upto 32)
+    map (λ (j : ℕ). if ltb j row then arrivalCharge reload tasks row j else 0) (upto 32)

@@ -5,7 +5,7 @@ use native.Mathlib.Nat.{zero-div, zero-mod, mod-lt, div-add-mod', suc-mul, mul-l
 use native.Mathlib.Omega.{arith}
 use mathlib.Core.Path.{_≡_, ap, _∙_}
 use lib.Arith.{digits-div, digits-mod}
-use Rattle.lists.proofs.Split.{below-or-not}
+use Rattle.lists.proofs.CaseSplits.{below-or-not}
 use Rattle.supply.specs.Supply.{supply, firstSupply, Budget}
 
 -- a < c: k more than a times k is at most c times k

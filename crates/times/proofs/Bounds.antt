@@ -12,10 +12,10 @@ use borrow.Author.Tests.{eq-eqb, ne-eqb}
 use Rattle.supply.specs.Supply.{supply, firstSupply, Budget}
 use Rattle.supply.proofs.Laws.{first-le, le-supply, le-first}
 use Rattle.rows.specs.RowWords.{core, vcpuPeriod, budget, taskPeriod, colourSet, cost, vcpuRows, taskRows}
-use Rattle.rows.specs.Reload.{heldFrom, reloaded, charge, charges}
+use Rattle.rows.specs.Reload.{heldFrom, reloaded, arrivalCharge, charges}
 use Rattle.times.specs.Times.{arrivals, need, taskNeed, vcpuCharge, vcpuNeed}
 use Rattle.rows.proofs.Charging.{reloaded-is, charge-kept}
-use Rattle.rows.specs.Valid.{TaskRow, Tasks, Vcpus}
+use Rattle.rows.specs.ValidRows.{TaskRow, Tasks, Vcpus}
 use Rattle.times.proofs.Search.{Searchable}
 use Rattle.times.proofs.Needs.{need-mono, own-le, need-next, need-le, need-same}
 
@@ -32,8 +32,8 @@ ones-and =
 pub reloaded-le : (part : List ℕ) (i j : ℕ) → TaskRow part j → reloaded part i j ≤ 16
 reloaded-le part i j r = rw (reloaded-is part i j) (le-trans (ones-and (colourSet part j) (heldFrom part (suc j) (i - j))) (r .colours-high))
 
-pub charge-le : (reload : ℕ) (part : List ℕ) (i j : ℕ) → reload ≤ 10000 → TaskRow part j → charge reload part i j ≤ 1160000
-unfolding charge
+pub charge-le : (reload : ℕ) (part : List ℕ) (i j : ℕ) → reload ≤ 10000 → TaskRow part j → arrivalCharge reload part i j ≤ 1160000
+unfolding arrivalCharge
 charge-le reload part i j h r = omega (arith, r .cost-high, mul-le-mul h (reloaded-le part i j r))
 
 -- a sum of need with one row more: over 32 rows at most, with charges of at most 1,160,000, it fits in 64 bits
@@ -55,7 +55,7 @@ module _ (reload : ℕ) (part : List ℕ) (i own : ℕ) (charged : List ℕ) (ow
   unfolding taskNeed
   kept-need t few =
       rw (own-is, charged-is)
-      (need-same (cost part i) (taskPeriod part) (taskPeriod part) (charge reload part i) (λ (j : ℕ). getD (charges reload part i) j 0) i t
+      (need-same (cost part i) (taskPeriod part) (taskPeriod part) (arrivalCharge reload part i) (λ (j : ℕ). getD (charges reload part i) j 0) i t
       (λ j l. (refl, charge-kept reload part i few j l)))
 
 -- an earlier VCPU charges its budget on its core, and nothing on another
@@ -75,8 +75,8 @@ task-searchable p q reload part i b some =
       first-le = first-le b;
       le-sup = le-supply b;
       le-first = le-first b;
-      mono = need-mono (cost part i) (taskPeriod part) (charge reload part i) i;
-      some = λ t. le-trans some (own-le (cost part i) (taskPeriod part) (charge reload part i) i t);
+      mono = need-mono (cost part i) (taskPeriod part) (arrivalCharge reload part i) i;
+      some = λ t. le-trans some (own-le (cost part i) (taskPeriod part) (arrivalCharge reload part i) i t);
     }
 
 pub task-search : (p q reload : ℕ) (part : List ℕ) (i : ℕ) → Budget p q → Tasks part → i < taskRows part → Searchable (supply p q) (taskNeed reload part i) (firstSupply p q)

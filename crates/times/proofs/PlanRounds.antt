@@ -8,20 +8,20 @@ use mathlib.Core.List.{List}
 use mathlib.Core.Path.{_≡_, refl, sym, _∙_}
 use lib.Dec.{eqb}
 use borrow.Author.Tests.{eq-eqb, eqb-false}
-use Rattle.lists.proofs.Split.{cases}
+use Rattle.lists.proofs.CaseSplits.{cases}
 use Rattle.supply.specs.Supply.{supply, Budget}
 use Rattle.rows.specs.RowWords.{core, vcpuPeriod, budget, vcpuOf, taskPeriod, deadline, cost, vcpuRows, taskRows}
-use Rattle.rows.specs.Reload.{charge}
+use Rattle.rows.specs.Reload.{arrivalCharge}
 use Rattle.rows.specs.Part.{partStart, partEnd, partOf}
-use Rattle.rows.specs.Valid.{Tasks, Vcpus, Ascending, Plan}
+use Rattle.rows.specs.ValidRows.{Tasks, Vcpus, AscendingVcpus, Plan}
 use Rattle.rows.proofs.Parts.{none-before, part-word, part-own, row-in-part}
 use Rattle.times.specs.Times.{arrivals, taskNeed, vcpuCharge, vcpuNeed}
 use Rattle.times.specs.Rounds.{roundsFrom, rounds, roundsInPart, taskRounds, vcpuRounds, roundsBound, taskBound, vcpuBound}
 use Rattle.times.proofs.Needs.{arrivals-mono, arrivals-least, arrivals-fall, arrivals-le}
 use Rattle.times.proofs.Bounds.{task-search, other-core, vcpu-search}
-use Rattle.times.proofs.Counted.{allowed, ends-by-itself}
+use Rattle.times.proofs.CountedRounds.{allowed, ends-by-itself}
 use Rattle.times.proofs.RoundsBound.{rounds-bounded}
-use Rattle.times.proofs.Fit.{fit, rounds-over-part}
+use Rattle.times.proofs.FitRows.{fit, rounds-over-part}
 
 -- rows that do not count add nothing
 none-count : (counts : ℕ → Bool) (period : ℕ → ℕ) (due n : ℕ) → ((k : ℕ) → k < n → counts k ≡ false) → roundsBound counts period due n ≡ 2
@@ -47,11 +47,11 @@ pub part-rounds-bounded : (p q reload : ℕ) (part : List ℕ) (i : ℕ) → Bud
     → roundsInPart p q reload part i ≤ roundsBound (λ (j : ℕ). true) (taskPeriod part) (deadline part i) i
 unfolding roundsInPart taskNeed
 part-rounds-bounded p q reload part i b rows here =
-    rounds-bounded (λ (j : ℕ). true) (taskPeriod part) (cost part i) (charge reload part i) (λ j e. absurd (true≢false e)) i (deadline part i)
+    rounds-bounded (λ (j : ℕ). true) (taskPeriod part) (cost part i) (arrivalCharge reload part i) (λ j e. absurd (true≢false e)) i (deadline part i)
     (task-search p q reload part i b rows here) (rows .row i here .due-low) (λ j l. rows .row j (omega arith) .period-low)
 
 -- a row's deadline in the part of its VCPU
-due-in-part : (tasks : List ℕ) → Ascending tasks → (j : ℕ) → j < taskRows tasks → let v = vcpuOf tasks j in
+due-in-part : (tasks : List ℕ) → AscendingVcpus tasks → (j : ℕ) → j < taskRows tasks → let v = vcpuOf tasks j in
     deadline (partOf tasks v) (j - partStart tasks v) ≡ deadline tasks j
 due-in-part tasks up j h =
     let v : ℕ = vcpuOf tasks j in

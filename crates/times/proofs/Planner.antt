@@ -10,13 +10,13 @@ use lib.Dec.{leb}
 use lib.Count.{ones}
 use lib.ListN.{length, List·getD-append}
 use borrow.Author.Tests.{leb-true, leb-false, le-leb}
-use Rattle.lists.proofs.Split.{below-or-not}
+use Rattle.lists.proofs.CaseSplits.{below-or-not}
 use Rattle.supply.specs.Supply.{supply, Budget}
 use Rattle.supply.proofs.Laws.{supply-budget}
 use Rattle.rows.specs.RowWords.{vcpuPeriod, taskWord, taskPeriod, deadline, colourSet, cost}
-use Rattle.rows.specs.Reload.{heldFrom, reloaded, charge}
+use Rattle.rows.specs.Reload.{heldFrom, reloaded, arrivalCharge}
 use Rattle.rows.proofs.Charging.{reloaded-is}
-use Rattle.times.specs.First.{Time, At, Late, firstTime, NoLater}
+use Rattle.times.specs.FirstTime.{Time, At, Late, firstTime, NoLater}
 use Rattle.times.specs.Times.{taskNeed, timeInPart, vcpuNeed, vcpuTime}
 use Rattle.times.proofs.Search.{first-same, told-first, told-none}
 use Rattle.times.proofs.Needs.{need-less, need-same}
@@ -67,10 +67,10 @@ pub less-is-no-later :
     (p q reload reload′ : ℕ) (part part′ : List ℕ) (i : ℕ) → deadline part i ≡ deadline part′ i → reload′ ≤ reload → cost part′ i ≤ cost part i
     → ((j : ℕ) → j < i → (taskPeriod part′ j ≡ taskPeriod part j) × (cost part′ j ≤ cost part j) × (reloaded part′ i j ≤ reloaded part i j))
     → NoLater (timeInPart p q reload part i) (timeInPart p q reload′ part′ i)
-unfolding timeInPart taskNeed charge
+unfolding timeInPart taskNeed arrivalCharge
 less-is-no-later p q reload reload′ part part′ i due less own f =
     let needs : (t : ℕ) → taskNeed reload′ part′ i t ≤ taskNeed reload part i t = λ t.
-    need-less (cost part i) (cost part′ i) (taskPeriod part) (taskPeriod part′) (charge reload part i) (charge reload′ part′ i) i t own
+    need-less (cost part i) (cost part′ i) (taskPeriod part) (taskPeriod part′) (arrivalCharge reload part i) (arrivalCharge reload′ part′ i) i t own
     (λ j l. let r = f j l in (r .0, add-le-add (r .1) (mul-le-mul less (r .2)))) in
     rw (← due)
     (no-later (λ (t : ℕ). leb (taskNeed reload part i t) (supply p q t)) (λ (t : ℕ). leb (taskNeed reload′ part′ i t) (supply p q t)) (deadline part i)
@@ -105,13 +105,13 @@ module _ (part more : List ℕ) (i : ℕ) (whole : 20 * i + 20 ≤ length part) 
 
   pub later-tasks-change-nothing : (p q reload : ℕ) → ((j : ℕ) → j ≤ i → ones (colourSet part j) ≤ 16)
       → timeInPart p q reload (part ++ more) i ≡ timeInPart p q reload part i
-  unfolding timeInPart taskNeed charge cost
+  unfolding timeInPart taskNeed arrivalCharge cost
   later-tasks-change-nothing p q reload few =
       let costs : (j : ℕ) → j ≤ i → cost (part ++ more) j ≡ cost part j = λ j h.
       rw (set-stays j h) (word-stays j (3 + ones (colourSet part j)) h (omega (arith, few j h))) in
       let needs : (t : ℕ) → taskNeed reload (part ++ more) i t ≡ taskNeed reload part i t = λ t.
       rw (costs i (le-refl i))
-      (need-same (cost part i) (taskPeriod part) (taskPeriod (part ++ more)) (charge reload part i) (charge reload (part ++ more) i) i t
+      (need-same (cost part i) (taskPeriod part) (taskPeriod (part ++ more)) (arrivalCharge reload part i) (arrivalCharge reload (part ++ more) i) i t
       (λ j l. (word-stays j 1 (omega arith) (omega arith), rw (costs j (omega arith), reloaded-stays j l)))) in
       first-same (λ (t : ℕ). leb (taskNeed reload (part ++ more) i t) (supply p q t)) (λ (t : ℕ). leb (taskNeed reload part i t) (supply p q t)) (deadline (part ++ more) i)
       (λ t. ap (λ (x : ℕ). leb x (supply p q t)) (needs t))

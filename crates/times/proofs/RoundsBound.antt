@@ -5,13 +5,13 @@ use native.Mathlib.Nat.{le-refl, lt-irrefl, le-trans, add-le-add, div-self, mul-
 use native.Mathlib.Omega.{arith}
 use mathlib.Core.Bool.{Bool, false}
 use mathlib.Core.Path.{_≡_, refl, ap, _∙_}
-use Rattle.lists.specs.Choice.{if_then_else_}
-use Rattle.lists.proofs.Split.{cases, below-or-not}
+use Rattle.lists.specs.IfThenElse.{if_then_else_}
+use Rattle.lists.proofs.CaseSplits.{cases, below-or-not}
 use Rattle.times.specs.Times.{arrivals, need}
 use Rattle.times.specs.Rounds.{roundsFrom, rounds, roundsBound}
 use Rattle.times.proofs.Search.{Searchable}
 use Rattle.times.proofs.Needs.{arrivals-mono, arrivals-are}
-use Rattle.times.proofs.Counted.{ends, exceeds, goes-on, later}
+use Rattle.times.proofs.CountedRounds.{ends, exceeds, goes-on, later}
 
 -- in the first microsecond each row arrives once
 first-arrival : (period : ℕ) → 1 ≤ period → arrivals 1 period ≡ 1

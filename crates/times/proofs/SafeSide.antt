@@ -10,12 +10,12 @@ use lib.Bits.{bitAnd, bitOr, and-step, or-step, or-shr, or-comm}
 use lib.Count.{ones, ones-step}
 use lib.Dec.{leb}
 use borrow.Author.Tests.{leb-true, le-leb}
-use Rattle.lists.proofs.Split.{below-or-not}
+use Rattle.lists.proofs.CaseSplits.{below-or-not}
 use Rattle.supply.specs.Supply.{supply}
 use Rattle.rows.specs.RowWords.{taskPeriod, deadline, colourSet, cost}
-use Rattle.rows.specs.Reload.{heldFrom, reloaded, charge}
+use Rattle.rows.specs.Reload.{heldFrom, reloaded, arrivalCharge}
 use Rattle.rows.proofs.Charging.{reloaded-is}
-use Rattle.times.specs.First.{NoLater}
+use Rattle.times.specs.FirstTime.{NoLater}
 use Rattle.times.specs.Times.{taskNeed, timeInPart}
 use Rattle.times.specs.Pairwise.{colours-shared, pairwiseNeed, pairwiseTime}
 use Rattle.times.proofs.Needs.{need-less}
@@ -51,10 +51,10 @@ unfolding colours-shared
 shared-are-reloaded part i j k h l = rw (reloaded-is part i j) (row-in-union part (colourSet part j) k (i - j) (suc j) h (omega arith))
 
 pub no-earlier-than-pairwise : (p q reload : ℕ) (part : List ℕ) (i : ℕ) → NoLater (timeInPart p q reload part i) (pairwiseTime p q reload part i)
-unfolding timeInPart pairwiseTime taskNeed pairwiseNeed charge
+unfolding timeInPart pairwiseTime taskNeed pairwiseNeed arrivalCharge
 no-earlier-than-pairwise p q reload part i =
     let needs : (t : ℕ) → pairwiseNeed reload part i t ≤ taskNeed reload part i t = λ t.
-    need-less (cost part i) (cost part i) (taskPeriod part) (taskPeriod part) (charge reload part i) (λ (j : ℕ). cost part j + reload * colours-shared part i j) i t (le-refl (cost part i))
+    need-less (cost part i) (cost part i) (taskPeriod part) (taskPeriod part) (arrivalCharge reload part i) (λ (j : ℕ). cost part j + reload * colours-shared part i j) i t (le-refl (cost part i))
     (λ j l. (refl, add-le-add (le-refl (cost part j)) (mul-le-mul-left reload (shared-are-reloaded part i j i l (le-refl i))))) in
     no-later (λ (t : ℕ). leb (taskNeed reload part i t) (supply p q t)) (λ (t : ℕ). leb (pairwiseNeed reload part i t) (supply p q t)) (deadline part i)
     (λ t h e. le-leb _ _ (le-trans (needs t) (leb-true _ _ e)))

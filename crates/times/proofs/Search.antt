@@ -8,12 +8,12 @@ use mathlib.Core.Bool.{Bool, true, false}
 use mathlib.Core.Path.{_≡_, sym, _∙_}
 use lib.Dec.{leb, ltb}
 use borrow.Author.Tests.{le-leb, lt-leb, lt-ltb, le-ltb, ltb-true, ltb-false}
-use Rattle.lists.specs.Choice.{if_then_else_}
+use Rattle.lists.specs.IfThenElse.{if_then_else_}
 use Rattle.lists.specs.Range.{lowestFrom}
-use Rattle.lists.proofs.Split.{cases, below-or-not}
-use Rattle.lists.proofs.Sought.{sought-hit, sought-miss, sought-end}
-use Rattle.lists.proofs.Found.{Found, found as lowest-found, missed as none-found, sought-past, sought-is}
-use Rattle.times.specs.First.{At, Late, firstFrom, firstTime}
+use Rattle.lists.proofs.CaseSplits.{cases, below-or-not}
+use Rattle.lists.proofs.RangeLoops.{sought-hit, sought-miss, sought-end}
+use Rattle.lists.proofs.Searches.{Found, found as lowest-found, missed as none-found, sought-past, sought-is}
+use Rattle.times.specs.FirstTime.{At, Late, firstFrom, firstTime}
 
 module _ (ok : ℕ → Bool) where
   -- the first time is the lowest number that passes

@@ -7,7 +7,7 @@ use lib.Count.{ones}
 use lib.Dec.{leb}
 use Rattle.supply.specs.Supply.{supply}
 use Rattle.rows.specs.RowWords.{taskPeriod, deadline, colourSet, cost}
-use Rattle.times.specs.First.{Time, firstTime}
+use Rattle.times.specs.FirstTime.{Time, firstTime}
 use Rattle.times.specs.Times.{need}
 
 -- the count of colours that two tasks both hold

@@ -5,11 +5,11 @@ use Prim.Native.Nat.{ℕ, zero, suc, _+_, _-_}
 use mathlib.Core.Bool.{Bool, _||_}
 use mathlib.Core.List.{List}
 use lib.Dec.{eqb, leb, ltb}
-use Rattle.lists.specs.Choice.{if_then_else_}
+use Rattle.lists.specs.IfThenElse.{if_then_else_}
 use Rattle.supply.specs.Supply.{supply}
 use Rattle.rows.specs.RowWords.{core, vcpuPeriod, budget, vcpuOf, taskPeriod, deadline}
 use Rattle.rows.specs.Part.{partStart, partOf}
-use Rattle.times.specs.First.{Time, At, Late, firstTime}
+use Rattle.times.specs.FirstTime.{Time, At, Late, firstTime}
 use Rattle.times.specs.Times.{arrivals, taskNeed, vcpuNeed}
 
 abbrev pub microsecondOr : ℕ → Time → ℕ

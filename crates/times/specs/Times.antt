@@ -2,12 +2,12 @@
 use Prim.Native.Nat.{ℕ, zero, suc, _+_, _-_, _*_, _/_}
 use mathlib.Core.List.{List}
 use lib.Dec.{eqb, leb}
-use Rattle.lists.specs.Choice.{if_then_else_}
+use Rattle.lists.specs.IfThenElse.{if_then_else_}
 use Rattle.supply.specs.Supply.{supply}
 use Rattle.rows.specs.RowWords.{core, vcpuPeriod, budget, vcpuOf, taskPeriod, deadline, cost}
-use Rattle.rows.specs.Reload.{charge}
+use Rattle.rows.specs.Reload.{arrivalCharge}
 use Rattle.rows.specs.Part.{partStart, partOf}
-use Rattle.times.specs.First.{Time, firstTime}
+use Rattle.times.specs.FirstTime.{Time, firstTime}
 
 -- t / T rounded up
 unfoldable pub arrivals : ℕ → ℕ → ℕ
@@ -20,7 +20,7 @@ need own period charge (suc j) t = need own period charge j t + arrivals t (peri
 
 -- the need of task i of a part in t: an arrival of an earlier task charges its cost and the reload that it causes (document 02, No. 3)
 unfoldable pub taskNeed : ℕ → List ℕ → ℕ → ℕ → ℕ
-taskNeed reload part i t = need (cost part i) (taskPeriod part) (charge reload part i) i t
+taskNeed reload part i t = need (cost part i) (taskPeriod part) (arrivalCharge reload part i) i t
 
 -- the first t from 1 to the deadline with supply at least the need
 unfoldable pub timeInPart : ℕ → ℕ → ℕ → List ℕ → ℕ → Time

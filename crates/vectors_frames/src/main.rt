@@ -1,4 +1,4 @@
-// Answers the separate tool's vectors of the frame table: scripts of the seven calls. The input is the
+// Answers the separate tool's vectors of the frame table: scripts of the calls. The input is the
 // words that `vectors_input` reads; output.rt writes the lines of each call. Tables, boards and move
 // lists are compared by a hash.
 use board::Board;
@@ -10,7 +10,7 @@ mod output;
 fn recolour(board: Board, table: &mut [u16], domain: u32, set: u32) -> Board {
     let mut room = [0u16; 13000];
     let moves = vectors_input::marked_table(&mut room);
-    let done = frames::recolour(board, table, domain, set, moves);
+    let done = moves::recolour(board, table, domain, set, moves);
     let answer = done.answer;
     let after = done.board;
     let count = output::moved(answer);
@@ -24,7 +24,7 @@ fn recolour(board: Board, table: &mut [u16], domain: u32, set: u32) -> Board {
 fn take_back(board: Board, table: &mut [u16], domain: u32, set: u32) -> Board {
     let mut room = [0u16; 13000];
     let moves = vectors_input::next_table(&mut room);
-    let done = frames::take_back(board, table, domain, set, moves);
+    let done = taking_back::take_back(board, table, domain, set, moves);
     let answer = done.answer;
     let after = done.board;
     output::moved(answer);

@@ -6,6 +6,10 @@ use Rattle.refusal.specs.Rows.{rowNames}
 use Rattle.refusal.proofs.row_names.Statement.{statement}
 use Rattle.refusal.proofs.row_names.Tie as tie
 
+-- earlier places of the code
+abbrev entry : tie.Else2 → tie.Start
+entry c = c .before .before
+
 returns : tie.Need-returns
 unfolding rowNames
 returns c =
@@ -15,7 +19,7 @@ returns c =
 returns-2 : tie.Need-returns-2
 unfolding rowNames
 returns-2 c =
-    let n : ℕ = c .before .before .before .before .args .number in
+    let n : ℕ = entry (c .before .before) .args .number in
     simp (le-leb 5 n (omega arith), lt-leb n 7 (omega arith), le-leb 17 n (omega arith), le-leb n 22 (omega arith))
 
 returns-3 : tie.Need-returns-3
@@ -27,13 +31,13 @@ returns-3 c =
 returns-4 : tie.Need-returns-4
 unfolding rowNames
 returns-4 c =
-    let n : ℕ = c .before .before .before .args .number in
+    let n : ℕ = entry (c .before) .args .number in
     simp (le-leb 5 n (omega arith), lt-leb n 7 (omega arith), lt-leb 17 n (omega arith))
 
 returns-5 : tie.Need-returns-5
 unfolding rowNames
 returns-5 c =
-    let n : ℕ = c .before .before .before .before .args .number in
+    let n : ℕ = entry (c .before .before) .args .number in
     simp (le-leb 5 n (omega arith), lt-leb n 7 (omega arith), le-leb 17 n (omega arith), lt-leb n 22 (omega arith))
 
 pub row-names-spec : {M : Type 1} → statement M

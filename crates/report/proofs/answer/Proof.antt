@@ -7,11 +7,18 @@ use mathlib.Core.Path.{_≡_, sym, ap, _∙_}
 use lib.ListN.{length, take}
 use lib.Seq.{length-take-le, take-all, take-length}
 use Rattle.report.specs.Report.{textOf}
-use Rattle.report.specs.Text.{over}
+use Rattle.text.specs.Text.{over}
 use Rattle.report.proofs.LongInputs.{kept-tells}
 use borrow.Author.Needs.{needs}
 use Rattle.report.proofs.answer.Statement.{statement}
 use Rattle.report.proofs.answer.Tie as tie
+
+-- earlier places of the code
+abbrev entry : tie.After-report-arg → tie.Start
+entry c = c .before .before .before
+
+abbrev joined1 : tie.After-struct-known → tie.Joined1
+joined1 c = c .before .before .before .before
 
 -- what is kept is there, and is what was read
 kept : (c : tie.Joined1) → (c .if1 .kept ≤ length (c .before .before .args .input .now)) × (take (c .if1 .kept) (c .before .before .args .input .now) ≡ take (c .before .before .args .read) (c .before .before .args .input .now))
@@ -26,7 +33,7 @@ kept c =
     (c .if1 .came)
 
 slice-aggregate-report : tie.Need-slice-aggregate-report
-slice-aggregate-report c = sym (length-take-le (c .before .if1 .kept) (c .before .before .before .args .input .now) (kept (c .before) .0))
+slice-aggregate-report c = sym (length-take-le (c .before .if1 .kept) (entry c .args .input .now) (kept (c .before) .0))
 
 report-requires : tie.Need-report-requires
 report-requires c κs = search needs
@@ -40,7 +47,7 @@ enough c = search needs
 
 returns : tie.Need-returns
 returns c =
-    let j = c .before .before .before .before in
+    let j = joined1 c in
     let s = j .before .before in
     let r = c .before .report in
     let text : textOf (take (j .if1 .kept) (s .args .input .now)) ≡ textOf (take (s .args .read) (s .args .input .now)) = ap textOf (kept j .1) in (

@@ -9,6 +9,10 @@ use Rattle.report.proofs.Verdict.{limits, extent-over, extent-short, ex
 use Rattle.report.proofs.plan_extent.Statement.{statement}
 use Rattle.report.proofs.plan_extent.Tie as tie
 
+-- earlier places of the code
+abbrev entry : tie.After-over-limit → tie.Start
+entry c = c .before .before .before
+
 -- whether a count is over its limit, and how many words the counts say
 over : (c : tie.After-over-limit) → c .over-limit .result ≡ overLimit (c .before .before .before .args .input .now)
 unfolding overLimit
@@ -25,42 +29,15 @@ taken c =
     let r = c .before .count-rows .ensures in
     rw (r .0, r .1, r .2)
 
-count-rows-requires : tie.Need-count-rows-requires
-count-rows-requires c κs = search needs
-
-over-limit-requires : tie.Need-over-limit-requires
-over-limit-requires c κs = search needs
-
 returns : tie.Need-returns
-returns c = sym (extent-over (c .before .before .before .before .args .input .now) (sym (over (c .before)) ∙ c .if1 .taken))
-
-add-words : tie.Need-add-words
-add-words c = omega (arith, few c)
-
-mul-words : tie.Need-mul-words
-mul-words c = omega (arith, few c)
-
-add-words-2 : tie.Need-add-words-2
-add-words-2 c = omega (arith, few c)
-
-mul-words-2 : tie.Need-mul-words-2
-mul-words-2 c = omega (arith, few c)
-
-add-words-3 : tie.Need-add-words-3
-add-words-3 c = omega (arith, few c)
-
-mul-if2 : tie.Need-mul-if2
-mul-if2 c = omega (arith, few c)
+returns c = sym (extent-over (entry (c .before) .args .input .now) (sym (over (c .before)) ∙ c .if1 .taken))
 
 returns-2 : tie.Need-returns-2
-returns-2 c = sym (extent-short (c .before .before .before .before .before .args .input .now) (rw (taken (c .before .before)) at (c .if2 .taken)))
-
-cast-t15 : tie.Need-cast-t15
-cast-t15 c = omega (arith, few (c .before))
+returns-2 c = sym (extent-short (entry (c .before .before) .args .input .now) (rw (taken (c .before .before)) at (c .if2 .taken)))
 
 returns-3 : tie.Need-returns-3
 returns-3 c =
-    let input : List ℕ = c .before .before .before .before .before .args .input .now in
+    let input : List ℕ = entry (c .before .before) .args .input .now in
     rw (taken (c .before .before))
     (sym (extent-whole input (sym (over (c .before .before)) ∙ c .before .if1 .left) (rw (taken (c .before .before)) at (c .if2 .left))))
 
@@ -68,15 +45,15 @@ pub plan-extent-spec : {M : Type 1} → statement M
 plan-extent-spec =
     tie.close
     (tie.spec
-    count-rows-requires
-    over-limit-requires
+    (λ c κs. search needs)
+    (λ c κs. search needs)
     returns
-    add-words
-    mul-words
-    add-words-2
-    mul-words-2
-    add-words-3
-    mul-if2
+    (λ c. omega (arith, few c))
+    (λ c. omega (arith, few c))
+    (λ c. omega (arith, few c))
+    (λ c. omega (arith, few c))
+    (λ c. omega (arith, few c))
+    (λ c. omega (arith, few c))
     returns-2
-    cast-t15
+    (λ c. omega (arith, few (c .before)))
     returns-3)

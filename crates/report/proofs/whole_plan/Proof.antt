@@ -8,42 +8,34 @@ use borrow.Author.Needs.{needs}
 use Rattle.report.proofs.whole_plan.Statement.{statement}
 use Rattle.report.proofs.whole_plan.Tie as tie
 
+-- earlier places of the code
+abbrev entry : tie.After-plan-extent → tie.Start
+entry c = c .before .before
+
+abbrev after-plan-extent : tie.After-known-told → tie.After-plan-extent
+after-plan-extent c = c .before .before .before
+
 extent : (c : tie.After-words) → extentReply (c .before .before .before .before .args .input .now) ≡ Answers (c .words .given .0 .0)
 extent c = sym (c .before .before .plan-extent .ensures) ∙ ap paperExtent (c .words .given .1)
 
-plan-extent-requires : tie.Need-plan-extent-requires
-plan-extent-requires c κs = search needs
-
-enum-known-words : tie.Need-enum-known-words
-enum-known-words c = search needs
-
-enum-told : tie.Need-enum-told
-enum-told c = search needs
-
 returns : tie.Need-returns
-returns c = no-extent (c .before .before .before .before .args .input .now) _ _ (sym (c .before .before .plan-extent .ensures) ∙ ap paperExtent (c .enum-told .given .1))
-
-cast-if1 : tie.Need-cast-if1
-cast-if1 c = search needs
-
-mul-if1 : tie.Need-mul-if1
-mul-if1 c = search needs
+returns c = no-extent (entry (c .before .before) .args .input .now) _ _ (sym (c .before .before .plan-extent .ensures) ∙ ap paperExtent (c .enum-told .given .1))
 
 returns-2 : tie.Need-returns-2
-returns-2 c = ends (c .before .before .before .before .before .before .args .input .now) _ (extent (c .before .before)) (c .if1 .taken)
+returns-2 c = ends (entry (after-plan-extent (c .before)) .args .input .now) _ (extent (c .before .before)) (c .if1 .taken)
 
 returns-3 : tie.Need-returns-3
-returns-3 c = goes-on (c .before .before .before .before .before .before .args .input .now) _ (extent (c .before .before)) (c .if1 .left)
+returns-3 c = goes-on (entry (after-plan-extent (c .before)) .args .input .now) _ (extent (c .before .before)) (c .if1 .left)
 
 pub whole-plan-spec : {M : Type 1} → statement M
 whole-plan-spec =
     tie.close
     (tie.spec
-    plan-extent-requires
-    enum-known-words
-    enum-told
+    (λ c κs. search needs)
+    (λ c. search needs)
+    (λ c. search needs)
     returns
-    cast-if1
-    mul-if1
+    (λ c. search needs)
+    (λ c. search needs)
     returns-2
     returns-3)

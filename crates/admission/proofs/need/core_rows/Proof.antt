@@ -1,12 +1,12 @@
--- `admission::need::core_rows` meets its contract, by the laws of entries for the VCPUs of a core (`OnCore`).
+-- `admission::need::core_rows` meets its contract, by the laws of entries for the VCPUs of a core (`CoreVcpus`).
 use Prim.Native.Nat.{ℕ, _-_, _<_, _≤_}
 use native.Mathlib.Omega.{arith}
 use mathlib.Core.Logic.{⊎-elim}
 use mathlib.Core.Path.{_≡_, refl, sym, subst, _∙_}
 use lib.ListN.{length, length-set}
 use borrow.Author.Needs.{needs}
-use Rattle.admission.specs.Earlier.{OnCore}
-use Rattle.admission.proofs.OnCore.{on-core-start, on-core-hit, on-core-miss}
+use Rattle.admission.specs.EarlierVcpus.{OnCore}
+use Rattle.admission.proofs.CoreVcpus.{on-core-start, on-core-hit, on-core-miss}
 use Rattle.admission.proofs.need.core_rows.Statement.{statement}
 use Rattle.admission.proofs.need.core_rows.Tie as tie
 
@@ -16,6 +16,13 @@ Inv-loop vcpus i core periods₀ budgets₀ count₀ j₀ periods budgets count 
 
 abbrev μ-loop : tie.MeasureT-loop
 μ-loop vcpus i core periods₀ budgets₀ count₀ j₀ periods budgets count j = i - j
+
+-- earlier places of the code
+abbrev entry-from-loop : tie.After-loop Inv-loop μ-loop → tie.Start Inv-loop μ-loop
+entry-from-loop c = c .before .before .before .before
+
+abbrev after-vcpu-word2 : tie.After-vcpu-word4 Inv-loop μ-loop → tie.After-vcpu-word2 Inv-loop μ-loop
+after-vcpu-word2 c = c .before .before .before
 
 -- the places: the entry and the turn of the loop
 abbrev entry : tie.In-loop Inv-loop μ-loop → tie.Start Inv-loop μ-loop
@@ -27,44 +34,8 @@ turn c = c .before
 below : (c : tie.In-loop Inv-loop μ-loop) → c .before .loop .count < 16
 below c = omega (arith, entry c .pre .0 .few, entry c .pre .1, c .before .loop .inv .1 .few)
 
-vcpu-word-requires : tie.Need-vcpu-word-requires Inv-loop μ-loop
-vcpu-word-requires c κs = search needs
-
 loop-holds : tie.Need-loop-holds Inv-loop μ-loop
 loop-holds c = (omega arith, on-core-start _ _ _ _, refl, refl)
-
-vcpu-word-requires-2 : tie.Need-vcpu-word-requires-2 Inv-loop μ-loop
-vcpu-word-requires-2 c κs = search needs
-
-cast-k : tie.Need-cast-k Inv-loop μ-loop
-cast-k c = omega arith
-
-vcpu-word-requires-3 : tie.Need-vcpu-word-requires-3 Inv-loop μ-loop
-vcpu-word-requires-3 c κs = search needs
-
-mul-periods : tie.Need-mul-periods Inv-loop μ-loop
-mul-periods c = omega (arith, below (turn (c .before .before)))
-
-array-write-periods : tie.Need-array-write-periods Inv-loop μ-loop
-array-write-periods c = below (turn (c .before .before))
-
-vcpu-word-requires-4 : tie.Need-vcpu-word-requires-4 Inv-loop μ-loop
-vcpu-word-requires-4 c κs = search needs
-
-mul-budgets : tie.Need-mul-budgets Inv-loop μ-loop
-mul-budgets c = omega (arith, below (turn (c .before .before .before)))
-
-array-write-budgets : tie.Need-array-write-budgets Inv-loop μ-loop
-array-write-budgets c = below (turn (c .before .before .before))
-
-add-count : tie.Need-add-count Inv-loop μ-loop
-add-count c = omega (arith, below (turn (c .before .before .before)))
-
-add-j : tie.Need-add-j Inv-loop μ-loop
-add-j c = omega arith
-
-loop-less : tie.Need-loop-less Inv-loop μ-loop
-loop-less c = omega arith
 
 loop-again : tie.Need-loop-again Inv-loop μ-loop
 loop-again c =
@@ -85,7 +56,7 @@ loop-again c =
 
 returns : tie.Need-returns Inv-loop μ-loop
 returns c =
-    let a = c .before .before .before .before .args in
+    let a = entry-from-loop c .args in
     let h = c .before .loop in
     let all : h .j ≡ a .i = omega arith in
     subst (λ (j : ℕ). OnCore (a .vcpus .now) (a .i) j (h .count) (h .periods) (h .budgets)) all (h .inv .1)
@@ -96,18 +67,18 @@ core-rows-spec =
     (tie.spec
     Inv-loop
     μ-loop
-    vcpu-word-requires
+    (λ c κs. search needs)
     loop-holds
-    vcpu-word-requires-2
-    cast-k
-    vcpu-word-requires-3
-    mul-periods
-    array-write-periods
-    vcpu-word-requires-4
-    mul-budgets
-    array-write-budgets
-    add-count
-    add-j
-    loop-less
+    (λ c κs. search needs)
+    (λ c. omega arith)
+    (λ c κs. search needs)
+    (λ c. omega (arith, below (turn (c .before .before))))
+    (λ c. below (turn (c .before .before)))
+    (λ c κs. search needs)
+    (λ c. omega (arith, below (turn (after-vcpu-word2 c))))
+    (λ c. below (turn (after-vcpu-word2 c)))
+    (λ c. omega (arith, below (turn (after-vcpu-word2 c))))
+    (λ c. omega arith)
+    (λ c. omega arith)
     loop-again
     returns)

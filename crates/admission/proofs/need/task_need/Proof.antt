@@ -5,7 +5,7 @@ use mathlib.Core.List.{List}
 use mathlib.Core.Path.{_≡_, refl, ap, _∙_}
 use lib.ListN.{getD}
 use Rattle.rows.specs.RowWords.{taskPeriod}
-use Rattle.rows.specs.Valid.{TaskRow}
+use Rattle.rows.specs.ValidRows.{TaskRow}
 use Rattle.times.specs.Times.{need}
 use Rattle.times.proofs.Bounds.{need-added}
 use borrow.Author.Needs.{needs}
@@ -21,6 +21,10 @@ Inv-loop own part i charges t sum₀ j₀ sum j = (j ≤ i) × (sum ≡ upto own
 
 abbrev μ-loop : tie.MeasureT-loop
 μ-loop own part i charges t sum₀ j₀ sum j = i - j
+
+-- earlier places of the code
+abbrev entry-from-loop : tie.After-loop Inv-loop μ-loop → tie.Start Inv-loop μ-loop
+entry-from-loop c = c .before .before .before
 
 -- the places: the entry and the turn of the loop, and the turn after its last call
 abbrev entry : tie.In-loop Inv-loop μ-loop → tie.Start Inv-loop μ-loop
@@ -40,22 +44,10 @@ loop-holds : tie.Need-loop-holds Inv-loop μ-loop
 unfolding need
 loop-holds c = (omega arith, refl)
 
-cast-k : tie.Need-cast-k Inv-loop μ-loop
-cast-k c = omega arith
-
-task-word-requires : tie.Need-task-word-requires Inv-loop μ-loop
-task-word-requires c κs = search needs
-
 arrivals-requires : tie.Need-arrivals-requires Inv-loop μ-loop
 arrivals-requires c κs =
     let r = row (c .before) in
     (entry (c .before) .pre .1, rw (c .task-word .ensures) (r .period-low), rw (c .task-word .ensures) (r .period-high))
-
-mul-sum : tie.Need-mul-sum Inv-loop μ-loop
-mul-sum c = omega (arith, below (turn c))
-
-element-copy-out-sum : tie.Need-element-copy-out-sum Inv-loop μ-loop
-element-copy-out-sum c = below (turn c)
 
 -- the sum with one row more, and its bound
 next : (c : tie.After-arrivals Inv-loop μ-loop) → let a = entry (turn c) .args in let h = turn c .before .loop in let sum = h .sum + c .arrivals .result * getD (a .charges .now) (h .j) 0 in
@@ -68,25 +60,13 @@ next c =
     need-added (a .own) (taskPeriod (a .part .now)) charged (h .j) (a .i) (a .t) _ _ (s .pre .0) (s .pre .1) (omega arith) (omega (arith, s .pre .2 .few, s .pre .3)) (s .pre .4) (h .inv .1)
     (ap (λ (x : ℕ). x * charged (h .j)) (rw (c .before .task-word .ensures) at (c .arrivals .ensures)))
 
-mul-sum-2 : tie.Need-mul-sum-2 Inv-loop μ-loop
-mul-sum-2 c = omega (arith, next (c .before) .1)
-
-add-sum : tie.Need-add-sum Inv-loop μ-loop
-add-sum c = omega (arith, next (c .before) .1)
-
-add-j : tie.Need-add-j Inv-loop μ-loop
-add-j c = omega arith
-
-loop-less : tie.Need-loop-less Inv-loop μ-loop
-loop-less c = omega arith
-
 loop-again : tie.Need-loop-again Inv-loop μ-loop
 loop-again c = (omega arith, next (c .before) .0)
 
 returns : tie.Need-returns Inv-loop μ-loop
 returns c =
     let h = c .before .loop in
-    let a = c .before .before .before .args in
+    let a = entry-from-loop c .args in
     let all : h .j ≡ a .i = omega arith in
     h .inv .1 ∙ ap (upto (a .own) (a .part .now) (a .charges .now) (a .t)) all
 
@@ -97,14 +77,14 @@ task-need-spec =
     Inv-loop
     μ-loop
     loop-holds
-    cast-k
-    task-word-requires
+    (λ c. omega arith)
+    (λ c κs. search needs)
     arrivals-requires
-    mul-sum
-    element-copy-out-sum
-    mul-sum-2
-    add-sum
-    add-j
-    loop-less
+    (λ c. omega (arith, below (turn c)))
+    (λ c. below (turn c))
+    (λ c. omega (arith, next (c .before) .1))
+    (λ c. omega (arith, next (c .before) .1))
+    (λ c. omega arith)
+    (λ c. omega arith)
     loop-again
     returns)

@@ -7,7 +7,7 @@ use mathlib.Core.Path.{_≡_, refl, ap, _∙_}
 use lib.ListN.{getD}
 use Rattle.times.specs.Times.{need}
 use Rattle.times.proofs.Bounds.{need-added}
-use Rattle.admission.specs.Earlier.{Within}
+use Rattle.admission.specs.EarlierVcpus.{RowInRange}
 use Rattle.admission.proofs.need.vcpu_need.Statement.{statement}
 use Rattle.admission.proofs.need.vcpu_need.Tie as tie
 
@@ -29,7 +29,7 @@ abbrev turn : tie.After-arrivals Inv-loop μ-loop → tie.In-loop Inv-loop μ-lo
 turn c = c .before .before
 
 -- the entry that the loop has come to
-here : (c : tie.In-loop Inv-loop μ-loop) → Within (entry c .args .periods .now) (entry c .args .budgets .now) (c .before .loop .j)
+here : (c : tie.In-loop Inv-loop μ-loop) → RowInRange (entry c .args .periods .now) (entry c .args .budgets .now) (c .before .loop .j)
 here c = entry c .pre .3 (c .before .loop .j) (omega arith)
 
 below : (c : tie.In-loop Inv-loop μ-loop) → c .before .loop .j < 16
@@ -39,26 +39,8 @@ loop-holds : tie.Need-loop-holds Inv-loop μ-loop
 unfolding need
 loop-holds c = (omega arith, refl)
 
-cast-k : tie.Need-cast-k Inv-loop μ-loop
-cast-k c = omega arith
-
-mul-arrivals : tie.Need-mul-arrivals Inv-loop μ-loop
-mul-arrivals c = omega (arith, below c)
-
-element-copy-out-arrivals : tie.Need-element-copy-out-arrivals Inv-loop μ-loop
-element-copy-out-arrivals c = below c
-
 arrivals-requires : tie.Need-arrivals-requires Inv-loop μ-loop
 arrivals-requires c κs = let r = here (c .before) in (entry (c .before) .pre .1, r .period-low, r .period-high)
-
-mul-sum : tie.Need-mul-sum Inv-loop μ-loop
-mul-sum c = omega (arith, below (turn c))
-
-element-copy-out-sum : tie.Need-element-copy-out-sum Inv-loop μ-loop
-element-copy-out-sum c = below (turn c)
-
-cast-sum : tie.Need-cast-sum Inv-loop μ-loop
-cast-sum c = omega (arith, here (turn (c .before)) .budget-high)
 
 -- the sum with one entry more, and its bound
 next : (c : tie.After-arrivals Inv-loop μ-loop) → let a = entry (turn c) .args in let h = turn c .before .loop in let sum = h .sum + c .arrivals .result * getD (a .budgets .now) (h .j) 0 in
@@ -70,18 +52,6 @@ next c =
     let charged : ℕ → ℕ = λ j. getD (a .budgets .now) j 0 in
     need-added (a .own) (λ (j : ℕ). getD (a .periods .now) j 0) charged (h .j) (a .count) (a .t) _ _ (s .pre .0) (s .pre .1) (omega arith) (omega (arith, s .pre .2))
     (λ j l. le-trans (s .pre .3 j l .budget-high) (omega arith)) (h .inv .1) (ap (λ (x : ℕ). x * charged (h .j)) (c .arrivals .ensures))
-
-mul-sum-2 : tie.Need-mul-sum-2 Inv-loop μ-loop
-mul-sum-2 c = omega (arith, next (c .before) .1)
-
-add-sum : tie.Need-add-sum Inv-loop μ-loop
-add-sum c = omega (arith, next (c .before) .1)
-
-add-j : tie.Need-add-j Inv-loop μ-loop
-add-j c = omega arith
-
-loop-less : tie.Need-loop-less Inv-loop μ-loop
-loop-less c = omega arith
 
 loop-again : tie.Need-loop-again Inv-loop μ-loop
 loop-again c = (omega arith, next (c .before) .0)
@@ -100,16 +70,16 @@ vcpu-need-spec =
     Inv-loop
     μ-loop
     loop-holds
-    cast-k
-    mul-arrivals
-    element-copy-out-arrivals
+    (λ c. omega arith)
+    (λ c. omega (arith, below c))
+    (λ c. below c)
     arrivals-requires
-    mul-sum
-    element-copy-out-sum
-    cast-sum
-    mul-sum-2
-    add-sum
-    add-j
-    loop-less
+    (λ c. omega (arith, below (turn c)))
+    (λ c. below (turn c))
+    (λ c. omega (arith, here (turn (c .before)) .budget-high))
+    (λ c. omega (arith, next (c .before) .1))
+    (λ c. omega (arith, next (c .before) .1))
+    (λ c. omega arith)
+    (λ c. omega arith)
     loop-again
     returns)

@@ -1,4 +1,4 @@
--- `admission::row_times::task_time` meets its contract: the part of the row's VCPU is handed on to the search, for which it is fit (`Fit`).
+-- `admission::row_times::task_time` meets its contract: the part of the row's VCPU is handed on to the search, for which it is fit (`FitRows`).
 use Prim.Native.Nat.{ℕ}
 use native.Mathlib.Omega.{arith}
 use mathlib.Core.List.{List}
@@ -6,7 +6,7 @@ use mathlib.Core.Path.{_≡_, ap₂, _∙_}
 use Rattle.rows.specs.RowWords.{vcpuOf}
 use Rattle.rows.specs.Part.{partFrom, partOf}
 use Rattle.rows.proofs.Parts.{part-at-start}
-use Rattle.times.proofs.Fit.{Fit, fit, fit-read, time-read, rounds-read}
+use Rattle.times.proofs.FitRows.{Fit, fit, fit-read, time-read, rounds-read}
 use borrow.Author.Needs.{needs}
 use Rattle.admission.proofs.row_times.task_time.Statement.{statement}
 use Rattle.admission.proofs.row_times.task_time.Tie as tie
@@ -29,18 +29,6 @@ own c =
     c .part-from .ensures
     ∙ ap₂ (λ (i v : ℕ). partFrom t i v) (s .pre .2) (c .before .task-word .ensures)
     ∙ part-at-start t (vcpuOf t (s .args .j))
-
-task-word-requires : tie.Need-task-word-requires
-task-word-requires c κs = search needs
-
-part-from-requires : tie.Need-part-from-requires
-part-from-requires c κs = search needs
-
-vcpu-word-requires : tie.Need-vcpu-word-requires
-vcpu-word-requires c κs = search needs
-
-vcpu-word-requires-2 : tie.Need-vcpu-word-requires-2
-vcpu-word-requires-2 c κs = search needs
 
 cast-time-in-part : tie.Need-cast-time-in-part
 cast-time-in-part c =
@@ -73,10 +61,10 @@ pub task-time-spec : {M : Type 1} → statement M
 task-time-spec =
     tie.close
     (tie.spec
-    task-word-requires
-    part-from-requires
-    vcpu-word-requires
-    vcpu-word-requires-2
+    (λ c κs. search needs)
+    (λ c κs. search needs)
+    (λ c κs. search needs)
+    (λ c κs. search needs)
     cast-time-in-part
     sub-time-in-part
     time-in-part-requires

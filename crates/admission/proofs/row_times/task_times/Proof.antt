@@ -1,5 +1,5 @@
 -- `admission::row_times::task_times` meets its contract. The invariant: no row passed is late, and their times stand after those known
--- (`Timing`); no row before `start` is of a VCPU that is still to come.
+-- (`RowLoops`); no row before `start` is of a VCPU that is still to come.
 use Prim.Native.Nat.{ℕ, _-_, _<_, _≤_}
 use native.Mathlib.Nat.{le-refl, not-suc-le-zero}
 use native.Mathlib.Omega.{arith}
@@ -13,7 +13,7 @@ use Rattle.rows.proofs.Parts.{start-le, start-from, before-part}
 use Rattle.times.specs.Times.{taskTime}
 use Rattle.times.specs.Rounds.{taskRounds}
 use Rattle.admission.specs.Paper.{paperFound}
-use Rattle.admission.proofs.Timing.{Timing, timing-start, timing-next, timing-late, timing-end}
+use Rattle.admission.proofs.RowLoops.{Timing, timing-start, timing-next, timing-late, timing-end}
 use Rattle.admission.proofs.row_times.task_times.Statement.{statement}
 use Rattle.admission.proofs.row_times.task_times.Tie as tie
 
@@ -25,6 +25,10 @@ Inv-loop reload vcpus tasks first found₀ rounds₀ rows start₀ j₀ found ro
 abbrev μ-loop : tie.MeasureT-loop
 μ-loop reload vcpus tasks first found₀ rounds₀ rows start₀ j₀ found rounds start j = rows - j
 
+-- earlier places of the code
+abbrev after-task-time : tie.After-known-told Inv-loop μ-loop → tie.After-task-time Inv-loop μ-loop
+after-task-time c = c .before .before .before
+
 -- the places: the entry and the turn of the loop, and the turn after its second call
 abbrev entry : tie.In-loop Inv-loop μ-loop → tie.Start Inv-loop μ-loop
 entry c = c .before .before .before .before
@@ -32,19 +36,10 @@ entry c = c .before .before .before .before
 abbrev turn : tie.After-next-own Inv-loop μ-loop → tie.In-loop Inv-loop μ-loop
 turn c = c .before .before
 
-cast-rows : tie.Need-cast-rows Inv-loop μ-loop
-cast-rows c = omega (arith, c .before .before .pre .0 .task-rows .few)
-
 loop-holds : tie.Need-loop-holds Inv-loop μ-loop
 loop-holds c =
     let s = c .before .before in
     (timing-start _ _ _ _ _ _ _ _ refl (s .pre .2) refl (s .pre .3), refl, omega arith, λ m l. absurd (not-suc-le-zero l))
-
-task-word-requires : tie.Need-task-word-requires Inv-loop μ-loop
-task-word-requires c κs = search needs
-
-next-own-requires : tie.Need-next-own-requires Inv-loop μ-loop
-next-own-requires c κs = search needs
 
 -- the part of the row's VCPU starts at the row that was found
 starts : (c : tie.After-next-own Inv-loop μ-loop) → c .next-own .result ≡ partStart (entry (turn c) .args .tasks .now) (vcpuOf (entry (turn c) .args .tasks .now) (turn c .before .loop .j))
@@ -58,44 +53,14 @@ starts c =
 task-time-requires : tie.Need-task-time-requires Inv-loop μ-loop
 task-time-requires c κs = (entry (turn c) .pre .0, omega arith, starts c)
 
-enum-known-reached : tie.Need-enum-known-reached Inv-loop μ-loop
-enum-known-reached c = search needs
-
-enum-told : tie.Need-enum-told Inv-loop μ-loop
-enum-told c = search needs
-
 returns : tie.Need-returns Inv-loop μ-loop
 returns c =
     let d = c .before .before in
     timing-late _ _ _ _ _ _ (turn (d .before) .before .loop .inv .0) (omega arith) (sym (d .task-time .ensures .0) ∙ ap paperFound (c .enum-told .given .1))
 
-add-k : tie.Need-add-k Inv-loop μ-loop
-add-k c = omega arith
-
-cast-k : tie.Need-cast-k Inv-loop μ-loop
-cast-k c = omega arith
-
-mul-found : tie.Need-mul-found Inv-loop μ-loop
-mul-found c = omega arith
-
-element-write-found : tie.Need-element-write-found Inv-loop μ-loop
-element-write-found c = omega arith
-
-mul-rounds : tie.Need-mul-rounds Inv-loop μ-loop
-mul-rounds c = omega arith
-
-element-write-rounds : tie.Need-element-write-rounds Inv-loop μ-loop
-element-write-rounds c = omega arith
-
-add-j : tie.Need-add-j Inv-loop μ-loop
-add-j c = omega arith
-
-loop-less : tie.Need-loop-less Inv-loop μ-loop
-loop-less c = omega arith
-
 loop-again : tie.Need-loop-again Inv-loop μ-loop
 loop-again c =
-    let d = c .before .before .before in
+    let d = after-task-time c in
     let s = entry (turn (d .before)) in
     let h = turn (d .before) .before .loop in
     let tasks : List ℕ = s .args .tasks .now in
@@ -115,21 +80,21 @@ task-times-spec =
     (tie.spec
     Inv-loop
     μ-loop
-    cast-rows
+    (λ c. omega (arith, c .before .before .pre .0 .task-rows .few))
     loop-holds
-    task-word-requires
-    next-own-requires
+    (λ c κs. search needs)
+    (λ c κs. search needs)
     task-time-requires
-    enum-known-reached
-    enum-told
+    (λ c. search needs)
+    (λ c. search needs)
     returns
-    add-k
-    cast-k
-    mul-found
-    element-write-found
-    mul-rounds
-    element-write-rounds
-    add-j
-    loop-less
+    (λ c. omega arith)
+    (λ c. omega arith)
+    (λ c. omega arith)
+    (λ c. omega arith)
+    (λ c. omega arith)
+    (λ c. omega arith)
+    (λ c. omega arith)
+    (λ c. omega arith)
     loop-again
     returns-2)

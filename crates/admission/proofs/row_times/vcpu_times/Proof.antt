@@ -1,4 +1,4 @@
--- `admission::row_times::vcpu_times` meets its contract. The invariant: no row passed is late, and their times stand at the front (`Timing`).
+-- `admission::row_times::vcpu_times` meets its contract. The invariant: no row passed is late, and their times stand at the front (`RowLoops`).
 use Prim.Native.Nat.{_-_}
 use native.Mathlib.Nat.{zero-add}
 use native.Mathlib.Omega.{arith}
@@ -7,7 +7,7 @@ use borrow.Author.Needs.{needs}
 use Rattle.times.specs.Times.{vcpuTime}
 use Rattle.times.specs.Rounds.{vcpuRounds}
 use Rattle.admission.specs.Paper.{paperFound}
-use Rattle.admission.proofs.Timing.{Timing, timing-start, timing-next, timing-late, timing-end}
+use Rattle.admission.proofs.RowLoops.{Timing, timing-start, timing-next, timing-late, timing-end}
 use Rattle.admission.proofs.row_times.vcpu_times.Statement.{statement}
 use Rattle.admission.proofs.row_times.vcpu_times.Tie as tie
 
@@ -17,48 +17,28 @@ Inv-loop vcpus rows found₀ rounds₀ i₀ found rounds i = Timing (vcpuTime vc
 abbrev μ-loop : tie.MeasureT-loop
 μ-loop vcpus rows found₀ rounds₀ i₀ found rounds i = rows - i
 
+-- earlier places of the code
+abbrev entry : tie.In-loop Inv-loop μ-loop → tie.Start Inv-loop μ-loop
+entry c = c .before .before .before
+
+abbrev after-vcpu-time : tie.After-known-told Inv-loop μ-loop → tie.After-vcpu-time Inv-loop μ-loop
+after-vcpu-time c = c .before .before .before
+
 loop-holds : tie.Need-loop-holds Inv-loop μ-loop
 loop-holds c = timing-start _ _ _ _ _ _ _ _ refl (c .before .pre .2) refl (c .before .pre .3)
 
 vcpu-time-requires : tie.Need-vcpu-time-requires Inv-loop μ-loop
-vcpu-time-requires c κs = (c .before .before .before .pre .0, omega arith)
-
-enum-known-reached : tie.Need-enum-known-reached Inv-loop μ-loop
-enum-known-reached c = search needs
-
-enum-told : tie.Need-enum-told Inv-loop μ-loop
-enum-told c = search needs
+vcpu-time-requires c κs = (entry c .pre .0, omega arith)
 
 returns : tie.Need-returns Inv-loop μ-loop
 returns c =
     let d = c .before .before in
     timing-late _ _ _ _ _ _ (d .before .before .loop .inv) (omega arith) (sym (d .vcpu-time .ensures .0) ∙ ap paperFound (c .enum-told .given .1))
 
-cast-k : tie.Need-cast-k Inv-loop μ-loop
-cast-k c = search needs
-
-mul-found : tie.Need-mul-found Inv-loop μ-loop
-mul-found c = search needs
-
-element-write-found : tie.Need-element-write-found Inv-loop μ-loop
-element-write-found c = search needs
-
-mul-rounds : tie.Need-mul-rounds Inv-loop μ-loop
-mul-rounds c = search needs
-
-element-write-rounds : tie.Need-element-write-rounds Inv-loop μ-loop
-element-write-rounds c = search needs
-
-add-i : tie.Need-add-i Inv-loop μ-loop
-add-i c = search needs
-
-loop-less : tie.Need-loop-less Inv-loop μ-loop
-loop-less c = search needs
-
 loop-again : tie.Need-loop-again Inv-loop μ-loop
 loop-again c =
-    let d = c .before .before .before in
-    timing-next _ _ _ _ _ _ _ _ _ (sym (zero-add (d .before .before .loop .i))) (omega (arith, d .before .before .before .before .pre .0 .few)) (d .before .before .loop .inv) (omega arith) (sym (d .vcpu-time .ensures .0) ∙ ap paperFound (c .before .reached .given .1)) (d .vcpu-time .ensures .1)
+    let d = after-vcpu-time c in
+    timing-next _ _ _ _ _ _ _ _ _ (sym (zero-add (d .before .before .loop .i))) (omega (arith, entry (d .before) .pre .0 .few)) (d .before .before .loop .inv) (omega arith) (sym (d .vcpu-time .ensures .0) ∙ ap paperFound (c .before .reached .given .1)) (d .vcpu-time .ensures .1)
 
 returns-2 : tie.Need-returns-2 Inv-loop μ-loop
 returns-2 c = timing-end _ _ _ _ _ _ (c .before .loop .inv) (omega arith)
@@ -71,15 +51,15 @@ vcpu-times-spec =
     μ-loop
     loop-holds
     vcpu-time-requires
-    enum-known-reached
-    enum-told
+    (λ c. search needs)
+    (λ c. search needs)
     returns
-    cast-k
-    mul-found
-    element-write-found
-    mul-rounds
-    element-write-rounds
-    add-i
-    loop-less
+    (λ c. search needs)
+    (λ c. search needs)
+    (λ c. search needs)
+    (λ c. search needs)
+    (λ c. search needs)
+    (λ c. search needs)
+    (λ c. search needs)
     loop-again
     returns-2)

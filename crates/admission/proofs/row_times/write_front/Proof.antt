@@ -5,7 +5,7 @@ use mathlib.Core.List.{_++_}
 use mathlib.Core.Path.{_≡_, refl, ap, _∙_}
 use lib.ListN.{length, take, drop, length-set}
 use borrow.Author.Needs.{needs}
-use Rattle.lists.proofs.Written.{write-next}
+use Rattle.lists.proofs.WrittenLists.{write-next}
 use Rattle.admission.proofs.row_times.write_front.Statement.{statement}
 use Rattle.admission.proofs.row_times.write_front.Tie as tie
 
@@ -15,37 +15,20 @@ Inv-loop list₀ words count k₀ list k = (k ≤ count) × (length list ≡ len
 abbrev μ-loop : tie.MeasureT-loop
 μ-loop list₀ words count k₀ list k = count - k
 
+-- earlier places of the code
+abbrev entry : tie.After-list Inv-loop μ-loop → tie.Start Inv-loop μ-loop
+entry c = c .before .before .before
+
 loop-holds : tie.Need-loop-holds Inv-loop μ-loop
 loop-holds c = (omega arith, refl, refl)
 
-mul-list : tie.Need-mul-list Inv-loop μ-loop
-mul-list c = search needs
-
-element-copy-out-list : tie.Need-element-copy-out-list Inv-loop μ-loop
-element-copy-out-list c = search needs
-
-mul-list-2 : tie.Need-mul-list-2 Inv-loop μ-loop
-mul-list-2 c = search needs
-
-slice-write-list : tie.Need-slice-write-list Inv-loop μ-loop
-slice-write-list c = search needs
-
-add-k : tie.Need-add-k Inv-loop μ-loop
-add-k c = search needs
-
-loop-less : tie.Need-loop-less Inv-loop μ-loop
-loop-less c = search needs
-
 loop-again : tie.Need-loop-again Inv-loop μ-loop
 loop-again c =
-    let s = c .before .before .before in
+    let s = entry c in
     let h = c .before .before .loop in
     let in-words : h .k < length (s .args .words .now) = omega (arith, s .pre .0, s .pre .2) in
     let in-list : h .k < length (s .args .list .now) = omega (arith, s .pre .1) in
     (omega arith, simp length-set (h .inv .1), rw (h .inv .2) (write-next (s .args .words .now) (s .args .list .now) (h .k) in-words in-list))
-
-same-length : tie.Need-same-length Inv-loop μ-loop
-same-length c = search needs
 
 returns : tie.Need-returns Inv-loop μ-loop
 returns c =
@@ -61,12 +44,12 @@ write-front-spec =
     Inv-loop
     μ-loop
     loop-holds
-    mul-list
-    element-copy-out-list
-    mul-list-2
-    slice-write-list
-    add-k
-    loop-less
+    (λ c. search needs)
+    (λ c. search needs)
+    (λ c. search needs)
+    (λ c. search needs)
+    (λ c. search needs)
+    (λ c. search needs)
     loop-again
-    same-length
+    (λ c. search needs)
     returns)

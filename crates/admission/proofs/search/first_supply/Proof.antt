@@ -8,41 +8,11 @@ use borrow.Author.Needs.{needs}
 use Rattle.admission.proofs.search.first_supply.Statement.{statement}
 use Rattle.admission.proofs.search.first_supply.Tie as tie
 
-sub-gaps : tie.Need-sub-gaps
-sub-gaps c = search needs
-
-mul-gaps : tie.Need-mul-gaps
-mul-gaps c = search needs
-
-sub-whole : tie.Need-sub-whole
-sub-whole c = search needs
-
-div-whole : tie.Need-div-whole
-div-whole c = search needs
-
-sub-rest : tie.Need-sub-rest
-sub-rest c = search needs
-
-rem-rest : tie.Need-rem-rest
-rem-rest c = search needs
-
-cast-result : tie.Need-cast-result
-cast-result c = search needs
-
 whole-le : (c : tie.Start) → (c .args .x - 1) / c .args .budget ≤ 1000000
 whole-le c = omega (arith, div-le-self (c .args .x - 1) (c .args .budget), c .pre .3)
 
 rows-le : (c : tie.Start) → (c .args .x - 1) / c .args .budget * c .args .period ≤ 1000000000000
 rows-le c = mul-le-mul (whole-le c) (c .pre .1)
-
-cast-result-2 : tie.Need-cast-result-2
-cast-result-2 c = omega (arith, whole-le c)
-
-mul-result : tie.Need-mul-result
-mul-result c = omega (arith, rows-le c)
-
-add-result : tie.Need-add-result
-add-result c = omega (arith, rows-le c, c .pre .1)
 
 cast-result-3 : tie.Need-cast-result-3
 cast-result-3 c = omega (arith, mod-le (c .args .x - 1) (c .args .budget), c .pre .3)
@@ -61,16 +31,16 @@ pub first-supply-spec : {M : Type 1} → statement M
 first-supply-spec =
     tie.close
     (tie.spec
-    sub-gaps
-    mul-gaps
-    sub-whole
-    div-whole
-    sub-rest
-    rem-rest
-    cast-result
-    cast-result-2
-    mul-result
-    add-result
+    (λ c. search needs)
+    (λ c. search needs)
+    (λ c. search needs)
+    (λ c. search needs)
+    (λ c. search needs)
+    (λ c. search needs)
+    (λ c. search needs)
+    (λ c. omega (arith, whole-le c))
+    (λ c. omega (arith, rows-le c))
+    (λ c. omega (arith, rows-le c, c .pre .1))
     cast-result-3
     add-result-2
     add-result-3

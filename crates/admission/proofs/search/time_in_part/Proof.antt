@@ -1,5 +1,5 @@
 -- `admission::search::time_in_part` meets its contract. The invariant: no microsecond before t will do, and so many rounds are behind it. Each
--- round goes on to the first whose supply covers the need in t, and what the search stops at is the first that will (`Searching`).
+-- round goes on to the first whose supply covers the need in t, and what the search stops at is the first that will (`Search`).
 use Prim.Native.Nat.{_+_, _-_, _≤_}
 use native.Mathlib.Nat.{le-trans}
 use native.Mathlib.Omega.{arith}
@@ -10,7 +10,7 @@ use Rattle.rows.specs.Reload.{charges}
 use Rattle.times.specs.Times.{taskNeed, timeInPart}
 use Rattle.times.specs.Rounds.{roundsInPart}
 use Rattle.times.proofs.Search.{Searchable}
-use Rattle.times.proofs.Counted.{Searching, search-start, search-found, search-exceeded, search-missed, search-next}
+use Rattle.times.proofs.CountedRounds.{Searching, search-start, search-found, search-exceeded, search-missed, search-next}
 use Rattle.times.proofs.Bounds.{task-search, kept-le, kept-need}
 use borrow.Author.Needs.{needs}
 use Rattle.admission.proofs.search.time_in_part.Statement.{statement}
@@ -22,6 +22,10 @@ Inv-loop period budget reload part i due own charged t₀ rounds₀ t rounds =
 
 abbrev μ-loop : tie.MeasureT-loop
 μ-loop period budget reload part i due own charged t₀ rounds₀ t rounds = due + 1 - t
+
+-- earlier places of the code
+abbrev entry-from-charges : tie.After-charges Inv-loop μ-loop → tie.Start Inv-loop μ-loop
+entry-from-charges c = c .before .before .before .before
 
 -- the places: the entry and the turn of the loop, and the turn after its calls
 abbrev entry : tie.In-loop Inv-loop μ-loop → tie.Start Inv-loop μ-loop
@@ -43,20 +47,8 @@ search-of c = task-search (c .args .period) (c .args .budget) (c .args .reload) 
 due-le : (c : tie.In-loop Inv-loop μ-loop) → deadline (entry c .args .part .now) (entry c .args .i) ≤ 1000000
 due-le c = let s = entry c in let r = s .pre .3 .row (s .args .i) (s .pre .4) in le-trans (r .due-high) (r .period-high)
 
-task-word-requires : tie.Need-task-word-requires Inv-loop μ-loop
-task-word-requires c κs = search needs
-
-cost-requires : tie.Need-cost-requires Inv-loop μ-loop
-cost-requires c κs = search needs
-
-charges-requires : tie.Need-charges-requires Inv-loop μ-loop
-charges-requires c κs = search needs
-
-cast-due : tie.Need-cast-due Inv-loop μ-loop
-cast-due c = omega (arith, c .task-word .ok)
-
 loop-holds : tie.Need-loop-holds Inv-loop μ-loop
-loop-holds c = (search-start (search-of (c .before .before .before .before)), c .before .before .task-word .ensures, c .charges .ensures, c .before .cost .ensures)
+loop-holds c = (search-start (search-of (entry-from-charges c)), c .before .before .task-word .ensures, c .charges .ensures, c .before .cost .ensures)
 
 -- in the turn t is within the deadline, and the rounds are fewer
 in-time : (c : tie.In-loop Inv-loop μ-loop) → c .before .loop .t ≤ deadline (entry c .args .part .now) (entry c .args .i)
@@ -64,9 +56,6 @@ in-time c = omega (arith, c .before .loop .inv .1)
 
 rounds-fit : (c : tie.In-loop Inv-loop μ-loop) → c .before .loop .rounds + 1 ≤ 1000000
 rounds-fit c = omega (arith, in-time c, due-le c, c .before .loop .inv .0 .fewer)
-
-add-taken : tie.Need-add-taken Inv-loop μ-loop
-add-taken c = omega (arith, rounds-fit c)
 
 cast-task-need : tie.Need-cast-task-need Inv-loop μ-loop
 cast-task-need c = omega (arith, due-le (c .before), c .before .before .loop .inv .1)
@@ -124,9 +113,6 @@ returns-2 c =
     let told = search-found (search-of (entry d)) (d .before .loop .inv .0) (in-time d) (rw (next-is (c .before)) at (c .if2 .taken)) in
     (sym (told .0), omega (arith, told .1))
 
-loop-less : tie.Need-loop-less Inv-loop μ-loop
-loop-less c = omega arith
-
 loop-again : tie.Need-loop-again Inv-loop μ-loop
 loop-again c =
     let d = turn (c .before) in
@@ -138,7 +124,7 @@ returns-3 : tie.Need-returns-3 Inv-loop μ-loop
 unfolding timeInPart roundsInPart
 returns-3 c =
     let h = c .before .loop in
-    let told = search-missed (search-of (c .before .before .before .before .before .before)) (h .inv .0) (omega (arith, h .inv .1)) in
+    let told = search-missed (search-of (entry-from-charges (c .before .before))) (h .inv .0) (omega (arith, h .inv .1)) in
     (sym (told .0), omega (arith, told .1))
 
 pub time-in-part-spec : {M : Type 1} → statement M
@@ -147,12 +133,12 @@ time-in-part-spec =
     (tie.spec
     Inv-loop
     μ-loop
-    task-word-requires
-    cast-due
-    cost-requires
-    charges-requires
+    (λ c κs. search needs)
+    (λ c. omega (arith, c .task-word .ok))
+    (λ c κs. search needs)
+    (λ c κs. search needs)
     loop-holds
-    add-taken
+    (λ c. omega (arith, rounds-fit c))
     cast-task-need
     task-need-requires
     returns
@@ -160,6 +146,6 @@ time-in-part-spec =
     first-supply-requires
     cast-t20
     returns-2
-    loop-less
+    (λ c. omega arith)
     loop-again
     returns-3)

@@ -6,11 +6,11 @@ use Rattle.rows.specs.RowWords.{vcpuPeriod, budget}
 use Rattle.times.specs.Times.{vcpuNeed, vcpuTime}
 use Rattle.times.specs.Rounds.{vcpuRounds}
 use Rattle.times.proofs.Search.{Searchable}
-use Rattle.times.proofs.Counted.{Searching, search-start, search-found, search-missed, search-next}
+use Rattle.times.proofs.CountedRounds.{Searching, search-start, search-found, search-missed, search-next}
 use Rattle.times.proofs.Bounds.{vcpu-search}
 use borrow.Author.Needs.{needs}
-use Rattle.admission.specs.Earlier.{OnCore}
-use Rattle.admission.proofs.OnCore.{kept-need}
+use Rattle.admission.specs.EarlierVcpus.{OnCore}
+use Rattle.admission.proofs.CoreVcpus.{kept-need}
 use Rattle.admission.proofs.search.vcpu_time.Statement.{statement}
 use Rattle.admission.proofs.search.vcpu_time.Tie as tie
 
@@ -20,6 +20,13 @@ Inv-loop vcpus i due own count periods budgets t₀ rounds₀ t rounds =
 
 abbrev μ-loop : tie.MeasureT-loop
 μ-loop vcpus i due own count periods budgets t₀ rounds₀ t rounds = due + 1 - t
+
+-- earlier places of the code
+abbrev entry-from-vcpu-word2 : tie.After-vcpu-word2 Inv-loop μ-loop → tie.Start Inv-loop μ-loop
+entry-from-vcpu-word2 c = c .before .before .before
+
+abbrev after-periods : tie.After-loop Inv-loop μ-loop → tie.After-periods Inv-loop μ-loop
+after-periods c = c .before .before .before
 
 -- the places: the entry and the turn of the loop
 abbrev entry : tie.In-loop Inv-loop μ-loop → tie.Start Inv-loop μ-loop
@@ -35,22 +42,13 @@ search-of c = vcpu-search (c .args .vcpus .now) (c .args .i) (c .pre .0) (c .pre
 due-le : (c : tie.In-loop Inv-loop μ-loop) → vcpuPeriod (entry c .args .vcpus .now) (entry c .args .i) ≤ 1000000
 due-le c = let s = entry c in s .pre .0 .row (s .args .i) (s .pre .1) .period-high
 
-vcpu-word-requires : tie.Need-vcpu-word-requires Inv-loop μ-loop
-vcpu-word-requires c κs = search needs
-
-vcpu-word-requires-2 : tie.Need-vcpu-word-requires-2 Inv-loop μ-loop
-vcpu-word-requires-2 c κs = search needs
-
 core-rows-requires : tie.Need-core-rows-requires Inv-loop μ-loop
-core-rows-requires c κs = c .before .before .before .pre
-
-cast-due : tie.Need-cast-due Inv-loop μ-loop
-cast-due c = omega (arith, c .vcpu-word .ok)
+core-rows-requires c κs = entry-from-vcpu-word2 c .pre
 
 loop-holds : tie.Need-loop-holds Inv-loop μ-loop
 loop-holds c =
     let k = c .before .before in
-    (search-start (search-of (k .before .before .before .before)), k .before .before .vcpu-word .ensures, k .before .vcpu-word2 .ensures, k .core-rows .ensures)
+    (search-start (search-of (entry-from-vcpu-word2 (k .before))), k .before .before .vcpu-word .ensures, k .before .vcpu-word2 .ensures, k .core-rows .ensures)
 
 cast-vcpu-need : tie.Need-cast-vcpu-need Inv-loop μ-loop
 cast-vcpu-need c = let d = c .before .before in omega (arith, due-le d, d .before .loop .inv .1)
@@ -83,21 +81,12 @@ rounds-fit c = omega (arith, in-time c, due-le c, c .before .loop .inv .0 .fewer
 cast-t17 : tie.Need-cast-t17 Inv-loop μ-loop
 cast-t17 c = let d = turn (c .before) in omega (arith, due-le d, d .before .loop .inv .1)
 
-add-t19 : tie.Need-add-t19 Inv-loop μ-loop
-add-t19 c = omega (arith, rounds-fit (turn (c .before)))
-
 returns : tie.Need-returns Inv-loop μ-loop
 unfolding vcpuTime vcpuRounds
 returns c =
     let d = turn (c .before) in
     let told = search-found (search-of (entry d)) (d .before .loop .inv .0) (in-time d) (rw (need-is (c .before)) at (c .if1 .taken)) in
     (sym (told .0), omega (arith, told .1))
-
-add-rounds : tie.Need-add-rounds Inv-loop μ-loop
-add-rounds c = omega (arith, rounds-fit (turn (c .before)))
-
-loop-less : tie.Need-loop-less Inv-loop μ-loop
-loop-less c = omega arith
 
 loop-again : tie.Need-loop-again Inv-loop μ-loop
 loop-again c =
@@ -110,7 +99,7 @@ returns-2 : tie.Need-returns-2 Inv-loop μ-loop
 unfolding vcpuTime vcpuRounds
 returns-2 c =
     let h = c .before .loop in
-    let told = search-missed (search-of (c .before .before .before .before .before .before .before .before)) (h .inv .0) (omega (arith, h .inv .1)) in
+    let told = search-missed (search-of (entry-from-vcpu-word2 (after-periods c .before .before))) (h .inv .0) (omega (arith, h .inv .1)) in
     (sym (told .0), omega (arith, told .1))
 
 pub vcpu-time-spec : {M : Type 1} → statement M
@@ -119,17 +108,17 @@ vcpu-time-spec =
     (tie.spec
     Inv-loop
     μ-loop
-    vcpu-word-requires
-    cast-due
-    vcpu-word-requires-2
+    (λ c κs. search needs)
+    (λ c. omega (arith, c .vcpu-word .ok))
+    (λ c κs. search needs)
     core-rows-requires
     loop-holds
     cast-vcpu-need
     vcpu-need-requires
     cast-t17
-    add-t19
+    (λ c. omega (arith, rounds-fit (turn (c .before))))
     returns
-    add-rounds
-    loop-less
+    (λ c. omega (arith, rounds-fit (turn (c .before))))
+    (λ c. omega arith)
     loop-again
     returns-2)

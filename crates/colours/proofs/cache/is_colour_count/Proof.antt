@@ -4,10 +4,14 @@ use native.Mathlib.Omega.{arith}
 use mathlib.Core.Logic.{inl, inr, ⊎-elim}
 use mathlib.Core.Path.{_≡_}
 use borrow.Author.Tests.{ne-eqb}
-use Rattle.lists.proofs.Split.{below-or-not}
+use Rattle.lists.proofs.CaseSplits.{below-or-not}
 use Rattle.colours.specs.Cache.{isColourCount}
 use Rattle.colours.proofs.cache.is_colour_count.Statement.{statement}
 use Rattle.colours.proofs.cache.is_colour_count.Tie as tie
+
+-- earlier places of the code
+abbrev entry : tie.Else1 → tie.Start
+entry c = c .before .before
 
 returns : tie.Need-returns
 unfolding isColourCount
@@ -18,7 +22,7 @@ returns c =
 returns-2 : tie.Need-returns-2
 unfolding isColourCount
 returns-2 c =
-    let n : ℕ = c .before .before .before .args .colours in
+    let n : ℕ = entry (c .before) .args .colours in
     let other = c .before .before .match .rest .1 in
     let not-1 : n ≡ 1 → ⊥ = omega arith in
     let not-2 : n ≡ 2 → ⊥ = omega arith in
@@ -32,7 +36,7 @@ returns-3 c = ⊎-elim (λ e. rw e) (⊎-elim (λ e. rw e) (λ e. rw e)) (c .mat
 returns-4 : tie.Need-returns-4
 unfolding isColourCount
 returns-4 c =
-    let n : ℕ = c .before .before .before .args .colours in
+    let n : ℕ = entry (c .before) .args .colours in
     below-or-not n 2
     (λ l. let one : n ≡ 1 = omega arith in rw one)
     (λ l. let two : n ≡ 2 = omega arith in rw two)

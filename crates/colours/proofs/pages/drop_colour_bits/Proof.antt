@@ -1,4 +1,4 @@
--- `colours::pages::drop_colour_bits` meets its contract: the laws of `Drop` at a width of 32 bits.
+-- `colours::pages::drop_colour_bits` meets its contract: the laws of `DroppedBits` at a width of 32 bits.
 use Prim.Native.Nat.{_<_}
 use native.Mathlib.Omega.{arith}
 use mathlib.Core.Logic.{⊎-elim}
@@ -7,9 +7,13 @@ use borrow.Author.Needs.{needs}
 use borrow.Author.Tests.{leb-true, leb-false}
 use lib.Pow.{pow-pos}
 use Rattle.colours.proofs.Bits.{one-shl}
-use Rattle.colours.proofs.Drop.{drop-none, drop-low, drop-nothing, masked, shifted}
+use Rattle.colours.proofs.DroppedBits.{drop-none, drop-low, drop-nothing, masked, shifted}
 use Rattle.colours.proofs.pages.drop_colour_bits.Statement.{statement}
 use Rattle.colours.proofs.pages.drop_colour_bits.Tie as tie
+
+-- earlier places of the code
+abbrev entry : tie.Else2 → tie.Start
+entry c = c .before .before
 
 kept-lt : (c : tie.Else2) → c .before .before .args .kept < 32
 kept-lt c = leb-false 32 _ (c .if2 .left)
@@ -29,7 +33,7 @@ sub-low c = let a = c .before .before .args in omega (arith, one-shl 32 (a .kept
 
 returns-2 : tie.Need-returns-2
 returns-2 c =
-    let s = c .before .before .before in
+    let s = entry (c .before) in
     let a = s .args in
     masked 32 (a .page) (s .fits .page .fits) (a .kept) (kept-lt (c .before))
     ∙ sym (drop-low 32 (a .page) (s .fits .page .fits) (a .bits) (a .kept) (c .before .before .if1 .left) (c .if3 .taken))
@@ -42,7 +46,7 @@ shl-result c = search needs
 
 returns-3 : tie.Need-returns-3
 returns-3 c =
-    let s = c .before .before .before in
+    let s = entry (c .before) in
     let a = s .args in
     rw (masked 32 (a .page) (s .fits .page .fits) (a .kept) (kept-lt (c .before)))
     (shifted 32 (a .page) (s .fits .page .fits) (a .bits) (a .kept) (c .before .before .if1 .left))

@@ -16,6 +16,10 @@ use Rattle.colours.proofs.Ranges.{count-range, ColourSet, colour-set, c
 use Rattle.colours.proofs.pages.layout.Statement.{statement}
 use Rattle.colours.proofs.pages.layout.Tie as tie
 
+-- earlier places of the code
+abbrev else1 : tie.Else2 → tie.Else1
+else1 c = c .before .before
+
 passes-2 : (c : tie.Else1) → isColourCount (c .before .before .args .colours) ≡ true
 passes-2 c = sym (c .before .is-colour-count .ensures) ∙ not-false _ (c .if1 .left)
 
@@ -25,15 +29,9 @@ passes-9 c = sym (c .before .is-colour-set .ensures) ∙ not-false _ (c .if2 .le
 set-of : (c : tie.Else2) → ColourSet (c .before .before .before .before .args .colours) (c .before .before .before .before .args .set)
 set-of c = colour-set _ _ (passes-9 c)
 
-is-colour-count-requires : tie.Need-is-colour-count-requires
-is-colour-count-requires c κs = search needs
-
 returns : tie.Need-returns
 unfolding layoutReply unless
 returns c = simp (sym (c .before .is-colour-count .ensures) ∙ not-true _ (c .if1 .taken))
-
-is-colour-set-requires : tie.Need-is-colour-set-requires
-is-colour-set-requires c κs = search needs
 
 returns-2 : tie.Need-returns-2
 unfolding layoutReply unless
@@ -41,16 +39,10 @@ returns-2 c = simp (passes-2 (c .before .before), sym (c .before .is-colour-set 
 
 returns-3 : tie.Need-returns-3
 unfolding layoutReply unless
-returns-3 c = simp (passes-2 (c .before .before .before), passes-9 (c .before), lt-ltb _ _ (c .if3 .taken))
-
-rem-colour-at : tie.Need-rem-colour-at
-rem-colour-at c = set-of (c .before) .size-pos
+returns-3 c = simp (passes-2 (else1 (c .before)), passes-9 (c .before), lt-ltb _ _ (c .if3 .taken))
 
 colour-at-requires : tie.Need-colour-at-requires
-colour-at-requires c κs = omega (arith, count-range _ (passes-2 (c .before .before .before)))
-
-div-t11 : tie.Need-div-t11
-div-t11 c = set-of (c .before .before) .size-pos
+colour-at-requires c κs = omega (arith, count-range _ (passes-2 (else1 (c .before))))
 
 -- the pages before the row of colours in which the index falls
 high-le :
@@ -59,36 +51,33 @@ high-le :
     * c .before .before .before .before .before .before .args .colours
     ≤ c .before .before .before .before .before .before .args .index * 16
 high-le c =
-    let a = c .before .before .before .before .before .before .args in
-    mul-le-mul (div-le-self (a .index) (ones (a .set))) (count-range _ (passes-2 (c .before .before .before .before)) .1)
-
-mul-t12 : tie.Need-mul-t12
-mul-t12 c = omega (arith, high-le c)
+    let a = else1 (c .before .before) .before .before .args in
+    mul-le-mul (div-le-self (a .index) (ones (a .set))) (count-range _ (passes-2 (else1 (c .before .before))) .1)
 
 add-t13 : tie.Need-add-t13
 add-t13 c =
-    let a = c .before .before .before .before .before .before .args in
+    let a = else1 (c .before .before) .before .before .args in
     let s = set-of (c .before .before) in
     omega
-    (arith, high-le c, c .colour-at .ensures, colour-lt s (a .index % ones (a .set)) (mod-lt (a .index) (s .size-pos)), count-range _ (passes-2 (c .before .before .before .before)))
+    (arith, high-le c, c .colour-at .ensures, colour-lt s (a .index % ones (a .set)) (mod-lt (a .index) (s .size-pos)), count-range _ (passes-2 (else1 (c .before .before))))
 
 returns-4 : tie.Need-returns-4
 unfolding layoutReply unless layoutPage
 returns-4 c =
-    simp (passes-2 (c .before .before .before .before), passes-9 (c .before .before), le-ltb _ _ (c .before .if3 .left), c .colour-at .ensures)
+    simp (passes-2 (else1 (c .before .before)), passes-9 (c .before .before), le-ltb _ _ (c .before .if3 .left), c .colour-at .ensures)
 
 pub layout-spec : {M : Type 1} → statement M
 layout-spec =
     tie.close
     (tie.spec
-    is-colour-count-requires
+    (λ c κs. search needs)
     returns
-    is-colour-set-requires
+    (λ c κs. search needs)
     returns-2
     returns-3
-    rem-colour-at
+    (λ c. set-of (c .before) .size-pos)
     colour-at-requires
-    div-t11
-    mul-t12
+    (λ c. set-of (c .before .before) .size-pos)
+    (λ c. omega (arith, high-le c))
     add-t13
     returns-4)

@@ -6,8 +6,10 @@ use mathlib.Core.Path.{_≡_, sym, _∙_}
 use mathlib.Core.Logic.{⊎-elim}
 use native.Mathlib.Nat.{pos-of-ne-zero}
 use lib.ListN.{getD}
-use Rattle.lists.proofs.Kept.{ahead, ahead-start, ahead-take, ahead-skip, ahead-end}
+use Rattle.lists.proofs.PassingNumbers.{ahead, ahead-start, ahead-take, ahead-skip, ahead-end}
 use Rattle.colours.specs.Sets.{has, colourAt, coloursBelow}
+use borrow.Author.Needs.{needs}
+use Rattle.colours.proofs.Ranges.{own-colour}
 use Rattle.colours.proofs.sets.colour_at.Statement.{statement}
 use Rattle.colours.proofs.sets.colour_at.Tie as tie
 
@@ -21,25 +23,17 @@ loop-holds : tie.Need-loop-holds Inv-loop μ-loop
 unfolding colourAt coloursBelow
 loop-holds c = (omega arith, rw (ahead-start (has (c .args .set)) (c .args .colours)))
 
-has-colour-requires : tie.Need-has-colour-requires Inv-loop μ-loop
-has-colour-requires c κs = omega arith
+-- each colour is its own bit
+asked : (c : tie.After-has-colour Inv-loop μ-loop) → has (c .before .before .before .args .set) (c .before .before .loop .colour) ≡ c .has-colour .result
+asked c = sym (c .has-colour .ensures ∙ own-colour _ _ (omega (arith, c .before .loop-test .taken)))
 
 returns : tie.Need-returns Inv-loop μ-loop
 returns c =
     let a = c .before .before .before .before .before .args in
     let v = c .before .before .before .before .loop .inv in
     let i : ℕ = c .before .before .before .before .loop .colour in
-    let here = sym (c .before .before .has-colour .ensures) ∙ c .before .if1 .taken in
+    let here = asked (c .before .before) ∙ c .before .if1 .taken in
     sym (v .1 ∙ rw (ahead-take (has (a .set)) i (a .colours) (c .before .before .before .loop-test .taken) here, c .if2 .taken))
-
-sub-left : tie.Need-sub-left Inv-loop μ-loop
-sub-left c = omega (arith, pos-of-ne-zero (c .if2 .left))
-
-add-colour : tie.Need-add-colour Inv-loop μ-loop
-add-colour c = omega arith
-
-loop-less : tie.Need-loop-less Inv-loop μ-loop
-loop-less c = omega arith
 
 loop-again : tie.Need-loop-again Inv-loop μ-loop
 loop-again c =
@@ -48,12 +42,12 @@ loop-again c =
     let i : ℕ = h .colour in
     let l = c .before .before .loop-test .taken in
     let p = has (a .set) in
-    let is = c .before .has-colour .ensures in
+    let is = asked (c .before) in
     ⊎-elim
     (λ w.
     let one : h .left ≡ suc (c .if1 .left) = omega (arith, w .2, pos-of-ne-zero (w .1 .left)) in
-    (omega arith, h .inv .1 ∙ rw (ahead-take p i (a .colours) l (sym is ∙ w .0 .taken), one)))
-    (λ w. (omega arith, h .inv .1 ∙ rw (ahead-skip p i (a .colours) l (sym is ∙ w .0 .left), w .1)))
+    (omega arith, h .inv .1 ∙ rw (ahead-take p i (a .colours) l (is ∙ w .0 .taken), one)))
+    (λ w. (omega arith, h .inv .1 ∙ rw (ahead-skip p i (a .colours) l (is ∙ w .0 .left), w .1)))
     (c .if1 .came)
 
 returns-2 : tie.Need-returns-2 Inv-loop μ-loop
@@ -69,10 +63,10 @@ colour-at-spec =
     Inv-loop
     μ-loop
     loop-holds
-    has-colour-requires
+    (λ c κs. search needs)
     returns
-    sub-left
-    add-colour
-    loop-less
+    (λ c. omega (arith, pos-of-ne-zero (c .if2 .left)))
+    (λ c. omega arith)
+    (λ c. omega arith)
     loop-again
     returns-2)

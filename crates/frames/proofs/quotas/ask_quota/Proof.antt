@@ -6,9 +6,16 @@ use Rattle.board.specs.Paper.{paperChecked}
 use Rattle.calls.specs.Table.{State, stateOf}
 use Rattle.calls.specs.Calls.{Outcome}
 use Rattle.frames.specs.Steps.{quotaReply}
-use Rattle.frames.proofs.Asked.{quota-refused, quota-given, asker-below}
+use Rattle.frames.proofs.QuotaOutcome.{quota-refused, quota-given, asker-below}
 use Rattle.frames.proofs.quotas.ask_quota.Statement.{statement}
 use Rattle.frames.proofs.quotas.ask_quota.Tie as tie
+
+-- earlier places of the code
+abbrev after-check-quota : tie.After-known-told → tie.After-check-quota
+after-check-quota c = c .before .before .before
+
+abbrev entry-from-known-told : tie.After-known-told → tie.Start
+entry-from-known-told c = c .before .before .before .before .before .before
 
 -- the places of the code: nothing is refused; and the entry
 abbrev entry : tie.After-enum-told → tie.Start
@@ -20,22 +27,13 @@ state s = stateOf (s .args .board) (s .args .table .now)
 passes-27 : (c : tie.After-enum-told) → let s = entry c in quotaReply (state s) (s .args .domain) (s .args .quota) ≡ Answers tt
 passes-27 c = sym (c .before .before .check-quota .ensures) ∙ ap paperChecked (c .enum-told .given .1)
 
-check-quota-requires : tie.Need-check-quota-requires
-check-quota-requires c κs = search needs
-
-enum-known-refusal : tie.Need-enum-known-refusal
-enum-known-refusal c = search needs
-
-enum-told : tie.Need-enum-told
-enum-told c = search needs
-
 with-quota-requires : tie.Need-with-quota-requires
 with-quota-requires c κs = let s = entry c in asker-below (state s) (s .args .domain) (s .args .quota) (passes-27 c)
 
 returns : tie.Need-returns
 returns c =
-    let s = c .before .before .before .before .before .before in
-    let first = sym (c .before .before .before .check-quota .ensures) ∙ ap paperChecked (c .before .refusal .given .1) in
+    let s = entry-from-known-told c in
+    let first = sym (after-check-quota c .check-quota .ensures) ∙ ap paperChecked (c .before .refusal .given .1) in
     let e = quota-refused (state s) (s .args .domain) (s .args .quota) _ _ first in
     (sym (ap (λ (o : Outcome). o .reply) e), sym (ap (λ (o : Outcome). o .next .board .quotas) e))
 
@@ -49,9 +47,9 @@ pub ask-quota-spec : {M : Type 1} → statement M
 ask-quota-spec =
     tie.close
     (tie.spec
-    check-quota-requires
-    enum-known-refusal
-    enum-told
+    (λ c κs. search needs)
+    (λ c. search needs)
+    (λ c. search needs)
     with-quota-requires
     returns
     returns-2)

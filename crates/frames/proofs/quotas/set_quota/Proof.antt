@@ -47,7 +47,7 @@ use Rattle.calls.specs.Table.{stateOf}
 use Rattle.calls.specs.Calls.{Outcome, withQuotas, setQuota}
 use Rattle.frames.specs.Paper.{paperQuota}
 use Rattle.frames.specs.declared.quotas.Asked.{Asked}
-use Rattle.frames.proofs.Asked.{only-quotas}
+use Rattle.frames.proofs.QuotaOutcome.{only-quotas}
 use Rattle.frames.proofs.Walk.{Lent, opened, closed, says-two}
 use Rattle.frames.proofs.quotas.Asked as T
 use Rattle.frames.proofs.quotas.Asked.Laws as T′

@@ -14,7 +14,7 @@ bleached-requires c κs = search needs
 returns : tie.Need-returns
 returns c =
     let t = told-same itself nothing (c .bleached .ensures) (c .before .bleach .ensures) in
-    (t .number, (t .value, t .row))
+    record { holds = (t .number, t .value, t .row) }
 
 pub juzvanec-bleach-spec : {M : Type 1} → statement M
 juzvanec-bleach-spec = tie.close (tie.spec bleach-requires bleached-requires returns)

@@ -14,7 +14,7 @@ counted-requires c κs = search needs
 returns : tie.Need-returns
 returns c =
     let t = told-same itself nothing (c .counted .ensures) (c .before .cache-colours .ensures) in
-    (t .number, (t .value, t .row))
+    record { holds = (t .number, t .value, t .row) }
 
 pub juzvanec-cache-colours-spec : {M : Type 1} → statement M
 juzvanec-cache-colours-spec = tie.close (tie.spec cache-colours-requires counted-requires returns)

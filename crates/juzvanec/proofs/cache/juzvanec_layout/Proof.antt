@@ -14,7 +14,7 @@ laid-requires c κs = search needs
 returns : tie.Need-returns
 returns c =
     let t = told-same itself nothing (c .laid .ensures) (c .before .layout .ensures) in
-    (t .number, (t .value, t .row))
+    record { holds = (t .number, t .value, t .row) }
 
 pub juzvanec-layout-spec : {M : Type 1} → statement M
 juzvanec-layout-spec = tie.close (tie.spec layout-requires laid-requires returns)

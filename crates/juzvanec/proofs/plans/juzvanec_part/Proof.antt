@@ -8,6 +8,10 @@ use borrow.Author.Needs.{needs}
 use Rattle.juzvanec.proofs.plans.juzvanec_part.Statement.{statement}
 use Rattle.juzvanec.proofs.plans.juzvanec_part.Tie as tie
 
+-- earlier places of the code
+abbrev entry : tie.After-part-start → tie.Start
+entry c = c .before .before .before
+
 part-requires : tie.Need-part-requires
 part-requires c κs = search needs
 
@@ -15,7 +19,7 @@ part-start-requires : tie.Need-part-start-requires
 part-start-requires c κs = search needs
 
 mul-start : tie.Need-mul-start
-mul-start c = omega (arith, start-le (c .before .before .before .args .tasks .now) (c .before .before .before .args .vcpu))
+mul-start c = omega (arith, start-le (entry c .args .tasks .now) (entry c .args .vcpu))
 
 returns : tie.Need-returns
 returns c = (ap (λ (j : ℕ). 20 * j) (c .part-start .ensures), ap length (c .before .part .ensures))

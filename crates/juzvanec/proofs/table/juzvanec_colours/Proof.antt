@@ -9,6 +9,10 @@ use borrow.Author.Needs.{needs}
 use Rattle.juzvanec.proofs.table.juzvanec_colours.Statement.{statement}
 use Rattle.juzvanec.proofs.table.juzvanec_colours.Tie as tie
 
+-- earlier places of the code
+abbrev entry : tie.After-active → tie.Start
+entry c = c .before .before .before .before
+
 board-of-requires : tie.Need-board-of-requires
 board-of-requires c κs = search needs
 
@@ -20,11 +24,11 @@ active-requires c κs = search needs
 
 returns : tie.Need-returns
 returns c =
-    let a = c .before .before .before .before .args in
+    let a = entry c .args in
     let on : Board → Outcome = λ b. coloursCall (stateOf b (a .table .now)) (a .domain) in
     let reply = c .before .colours .ensures ∙ ap (λ (b : Board). on b .reply) (c .before .before .board-of .ensures) in
     let t = told-same numberIn secondIn (c .active .ensures) reply in
-    (t .number, (t .value, (t .second, t .row)))
+    record { holds = (t .number, t .value, t .second, t .row) }
 
 pub juzvanec-colours-spec : {M : Type 1} → statement M
 juzvanec-colours-spec =

@@ -9,6 +9,10 @@ use borrow.Author.Needs.{needs}
 use Rattle.juzvanec.proofs.table.juzvanec_look.Statement.{statement}
 use Rattle.juzvanec.proofs.table.juzvanec_look.Tie as tie
 
+-- earlier places of the code
+abbrev entry : tie.After-looked → tie.Start
+entry c = c .before .before .before .before
+
 board-of-requires : tie.Need-board-of-requires
 board-of-requires c κs = search needs
 
@@ -20,11 +24,11 @@ looked-requires c κs = search needs
 
 returns : tie.Need-returns
 returns c =
-    let a = c .before .before .before .before .args in
+    let a = entry c .args in
     let on : Board → Outcome = λ b. lookCall (stateOf b (a .table .now)) (a .domain) (a .page) in
     let reply = c .before .look .ensures ∙ ap (λ (b : Board). on b .reply) (c .before .before .board-of .ensures) in
     let t = told-same numberIn secondIn (c .looked .ensures) reply in
-    (t .number, (t .second, (t .value, t .row)))
+    record { holds = (t .number, t .second, t .value, t .row) }
 
 pub juzvanec-look-spec : {M : Type 1} → statement M
 juzvanec-look-spec =

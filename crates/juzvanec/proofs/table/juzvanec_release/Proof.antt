@@ -9,6 +9,13 @@ use borrow.Author.Needs.{needs}
 use Rattle.juzvanec.proofs.table.juzvanec_release.Statement.{statement}
 use Rattle.juzvanec.proofs.table.juzvanec_release.Tie as tie
 
+-- earlier places of the code
+abbrev after-release : tie.After-released → tie.After-release
+after-release c = c .before .before .before
+
+abbrev entry : tie.After-released → tie.Start
+entry c = c .before .before .before .before .before .before .before
+
 board-of-requires : tie.Need-board-of-requires
 board-of-requires c κs = search needs
 
@@ -23,13 +30,13 @@ same-length c = search needs
 
 returns : tie.Need-returns
 returns c =
-    let a = c .before .before .before .before .before .before .before .args in
+    let a = entry c .args in
     let on : Board → Outcome = λ b. releaseCall (stateOf b (a .table .now)) (a .domain) (a .page) in
-    let same = c .before .before .before .before .before .board-of .ensures in
-    let reply = c .before .before .before .release .ensures .0 ∙ ap (λ (b : Board). on b .reply) same in
-    let table = c .before .before .before .release .ensures .1 ∙ ap (λ (b : Board). on b .next .table) same in
+    let same = after-release c .before .before .board-of .ensures in
+    let reply = after-release c .release .ensures .0 ∙ ap (λ (b : Board). on b .reply) same in
+    let table = after-release c .release .ensures .1 ∙ ap (λ (b : Board). on b .next .table) same in
     let t = told-same numberIn secondIn (c .released .ensures) reply in
-    (t .number, (t .value, (t .row, table)))
+    record { holds = (t .number, t .value, t .row, table) }
 
 pub juzvanec-release-spec : {M : Type 1} → statement M
 juzvanec-release-spec =

@@ -37,7 +37,7 @@ use denote.Triple.Call.{calls-at}
 use denote.Triple.Clauses.{Lasts, ensured, lasts}
 use denote.Triple.Spec.{Meets, tripleOf}
 use denote.Triple.Table.{entered, cited}
-use denote.Triple.Walked.{Stays, stay-ref, gave-ref, stay-dropped, walkOf, goes-ref, goes-gave-ref, goes-dropped, Walks, ends-at, walked, walk-meets}
+use denote.Triple.Walked.{Stays, stay-ref, gave-ref, stay-dropped, walkOf, goes-ref, goes-gave-ref, goes-dropped, Walks, ends-at, walked, walk-meets, says}
 use denote.Exit.{yes}
 use Rattle.board.specs.declared.Board.{Board}
 use Rattle.board.proofs.Board as B
@@ -45,7 +45,7 @@ use Rattle.calls.specs.Table.{stateOf}
 use Rattle.calls.specs.Calls.{Outcome, setQuota}
 use Rattle.frames.specs.Paper.{paperQuota}
 use Rattle.frames.specs.declared.quotas.QuotaSet.{QuotaSet}
-use Rattle.frames.proofs.Walk.{Lent, opened, closed, says-four}
+use Rattle.frames.proofs.Walk.{Lent, opened, closed}
 use Rattle.frames.proofs.quotas.QuotaSet as Q
 use Rattle.frames.proofs.quotas.QuotaSet.Laws as Q′
 use Rattle.frames.proofs.set_quota as set
@@ -53,10 +53,10 @@ use Rattle.frames.proofs.set_quota.Symbol as set-def
 use Rattle.frames.proofs.set_quota.Symbol.{name as #frames·set-quota}
 use Rattle.frames.proofs.set_quota.Met as set-thm
 use Rattle.marshal.specs.Replies.{Tells, numberIn, secondIn}
-use Rattle.marshal.specs.declared.replies.Told.{Told}
+use Rattle.marshal.specs.declared.replies.ReplyNumbers.{ReplyNumbers}
 use Rattle.marshal.proofs.Tellings.{told-same}
-use Rattle.marshal.proofs.replies.Told as T
-use Rattle.marshal.proofs.replies.Told.Laws as T′
+use Rattle.marshal.proofs.replies.ReplyNumbers as T
+use Rattle.marshal.proofs.replies.ReplyNumbers.Laws as T′
 use Rattle.marshal.proofs.quota_set as tell
 use Rattle.marshal.proofs.quota_set.Symbol as tell-def
 use Rattle.marshal.proofs.quota_set.Symbol.{name as #marshal·quota-set}
@@ -157,22 +157,22 @@ module _ {M : Type 1} (𝓤 : URA M) (H : Heap 𝓤) (A : Atoms 𝓤) (W : Given
   goes-tell : (r : QuotaSet) (v : Val) → ent 𝓤 (sem 𝓤 H A (Q.the-row .own r (v ∷ []))) (Tell 𝓤 H A at-mem run .pre (to-tell r v))
   goes-tell r v = qed W (‵ (Q.the-row .own r (v ∷ [])) ∷ []) ∵ nothing ! $ move ! (1 ∷ 0 ∷ []) $ join ! $ nothing ! $ join ! $ frame ! $ done !
 
-  abbrev told : QuotaSet → Told → Type 0
+  abbrev told : QuotaSet → ReplyNumbers → Type 0
   told r t = Tells numberIn secondIn (paperQuota r) t
 
-  told-of : (r : QuotaSet) (t : Told) → ent 𝓤 (ensured 𝓤 H A tell.ended (tell.clauses 𝓤 H A at-mem run) tt (r, tt) tt t) (fact 𝓤 (told r t))
+  told-of : (r : QuotaSet) (t : ReplyNumbers) → ent 𝓤 (ensured 𝓤 H A tell.ended (tell.clauses 𝓤 H A at-mem run) tt (r, tt) tt t) (fact 𝓤 (told r t))
   told-of r t = exE 𝓤 _ (λ ws. snd∗ 𝓤 (sem 𝓤 H A (lasts tell.ended tt (r, tt) ws)) (fact 𝓤 (told r t)))
 
   -- what is had at exit
-  abbrev had : Told → Board → List (Item 𝓤)
+  abbrev had : ReplyNumbers → Board → List (Item 𝓤)
   had t h = ‵ (Lent u32 κ₃ (at-last row (t .row))) ∷ ‵ (flft κ₃ q₃) ∷ ‵ (Lent u32 κ₂ (at-last answer (t .value))) ∷ ‵ (flft κ₂ q₂) ∷ tokens ∷ ‵ (fres (board .name) (B.the-row .coded .code h)) ∷ []
 
-  exits : (r : QuotaSet) (t : Told) (h : Board) → t .number < 2 ^ 32 → replied r → left-is h → told r t → ent 𝓤 (⋆ 𝓤 H A (had t h)) (Post (vint w32 (t .number)))
+  exits : (r : QuotaSet) (t : ReplyNumbers) (h : Board) → t .number < 2 ^ 32 → replied r → left-is h → told r t → ent 𝓤 (⋆ 𝓤 H A (had t h)) (Post (vint w32 (t .number)))
   exits r t h fits e₁ e₂ e₃ =
       let e = told-same numberIn secondIn e₃ e₁ in
       qed W (had t h) ∵
       suffices ! _ (ends-at 𝓤 H A f.ended stayed (f.clauses 𝓤 H A at-mem run) W entry
-      (vint w32 (t .number)) (t .number) (h, (tt, (tt, (tt, (t .value, (t .row, tt)))))) (tt, (tt, (tt, (tt, (tt, (tt, tt))))))) $ says-four ! (e .number) (e .value) (e .row) e₂ $
+      (vint w32 (t .number)) (t .number) (h, (tt, (tt, (tt, (t .value, (t .row, tt)))))) (tt, (tt, (tt, (tt, (tt, (tt, tt))))))) $ says ! (record { holds = (e .number, e .value, e .row, e₂) }) $
       -- the tokens, then what is had of the parameters, then the result
       nothing ! $ move ! (2 ∷ 0 ∷ []) $ join ! $ move ! (3 ∷ 0 ∷ []) $ join ! $ move ! (3 ∷ []) $ split ! $ move ! (1 ∷ []) $ split ! $ move ! (0 ∷ 3 ∷ []) $ join ! $ move ! (2 ∷ 0 ∷ []) $ join ! $ frame ! $
       move ! (1 ∷ 0 ∷ []) $ fjoin ! $ move ! (1 ∷ 0 ∷ []) $ fjoin ! $ nothing ! $ fjoin ! $ nothing ! $ fjoin ! $ nothing ! $ fjoin ! $ move ! (1 ∷ 0 ∷ []) $ fjoin ! $
@@ -197,7 +197,7 @@ module _ {M : Type 1} (𝓤 : URA M) (H : Heap 𝓤) (A : Atoms 𝓤) (W : Given
         land ! (from ! (stop !)) (init ! 6 refl (EL.lawful Q.the-type Q′.the-laws 𝓤 H A W tt .typed r _ is .0)) $
         -- `quota_set` is called
         use1 W (raw (Tell 𝓤 H A at-mem run .pre (to-tell r w))) (goes-tell r w) $ calls-at ! fm (Tell 𝓤 H A at-mem run) known-tell (to-tell r w) (and-then ! (load ! (from ! (stop !)) (look ! 6 refl)) (no-more !)) (λ v.
-        use1 W (later (some (λ (t : Told). (‵ ftrue ⊛ ‵ (T.the-row .own t (v ∷ []))) ⊛ raw (ensured 𝓤 H A tell.ended (tell.clauses 𝓤 H A at-mem run) tt (r, tt) tt t)))) (id⊢ 𝓤 _) $ await ! tt $ pick ! (λ t. split ! $ move ! (1 ∷ []) $
+        use1 W (later (some (λ (t : ReplyNumbers). (‵ ftrue ⊛ ‵ (T.the-row .own t (v ∷ []))) ⊛ raw (ensured 𝓤 H A tell.ended (tell.clauses 𝓤 H A at-mem run) tt (r, tt) tt t)))) (id⊢ 𝓤 _) $ await ! tt $ pick ! (λ t. split ! $ move ! (1 ∷ []) $
         use1 W (raw (fact 𝓤 (told r t))) (told-of r t) $ heard ! (told r t) (λ e₃. split ! $ drop ! $ peeks ! T.the-row (Is T.the-row) (shows 𝓤 H A T.the-row) t (v ∷ []) (λ is′. let fit = LL.owed T.the-type T′.the-laws t (v ∷ []) is′ in
         land ! (from ! (stop !)) (init ! 8 refl (LL.lawful T.the-type T′.the-laws 𝓤 H A W .typed t _ is′ .0)) $ rewrite ! 8 (λ (u : Val). ‵ (fat fullShare T′.mir l₇ 0 u)) (ap only (LL.tells T.the-type T′.the-laws t (v ∷ []) is′)) refl $ drop ! $
         -- [the tokens; what is said of the board; what is kept; _9; …]: the quota is stored

@@ -1,6 +1,6 @@
 -- `marshal::replies::moved` meets its contract, case by case.
 use mathlib.Core.Path.{ap}
-use Rattle.frames.specs.Paper.{paperMoved}
+use Rattle.moves.specs.Paper.{paperMoved}
 use Rattle.marshal.specs.Replies.{numberIn, secondIn}
 use Rattle.marshal.proofs.Tellings.{tells-answer, tells-refusal}
 use borrow.Author.Needs.{needs}

@@ -6,6 +6,10 @@ use borrow.Author.Needs.{needs}
 use Rattle.marshal.proofs.words.board_of.Statement.{statement}
 use Rattle.marshal.proofs.words.board_of.Tie as tie
 
+-- earlier places of the code
+abbrev entry : tie.After-eight3 → tie.Start
+entry c = c .before .before .before .before .before .before
+
 element-copy-out-t4 : tie.Need-element-copy-out-t4
 element-copy-out-t4 c = search needs
 
@@ -26,7 +30,7 @@ eight-requires-3 c κs = search needs
 
 returns : tie.Need-returns
 returns c =
-    let words : List ℕ = c .before .before .before .before .before .before .args .words .now in
+    let words : List ℕ = entry c .args .words .now in
     let grants = c .before .before .eight .ensures in
     let active = c .before .eight2 .ensures in
     let quotas = c .eight3 .ensures in

@@ -4,9 +4,9 @@ use native.Mathlib.Omega.{arith}
 use mathlib.Core.List.{List, _++_}
 use mathlib.Core.Path.{_≡_, refl, sym, ap, ap₂, _∙_}
 use lib.ListN.{take, drop, set, replicate}
-use Rattle.lists.proofs.Written.{write-next}
+use Rattle.lists.proofs.WrittenLists.{write-next}
 use Rattle.marshal.specs.BoardWords.{wordsFrom}
-use Rattle.marshal.proofs.Lent.{word-at}
+use Rattle.marshal.proofs.BoardRoundTrip.{word-at}
 use borrow.Author.Needs.{needs}
 use Rattle.marshal.proofs.words.eight.Statement.{statement}
 use Rattle.marshal.proofs.words.eight.Tie as tie
@@ -17,33 +17,16 @@ Inv-loop words at list₀ i₀ list i = (i ≤ 8) × (list ≡ take i (wordsFrom
 abbrev μ-loop : tie.MeasureT-loop
 μ-loop words at list₀ i₀ list i = 8 - i
 
+-- earlier places of the code
+abbrev entry : tie.After-list Inv-loop μ-loop → tie.Start Inv-loop μ-loop
+entry c = c .before .before .before
+
 loop-holds : tie.Need-loop-holds Inv-loop μ-loop
 loop-holds c = (omega arith, refl)
 
-add-list : tie.Need-add-list Inv-loop μ-loop
-add-list c = search needs
-
-mul-list : tie.Need-mul-list Inv-loop μ-loop
-mul-list c = search needs
-
-element-copy-out-list : tie.Need-element-copy-out-list Inv-loop μ-loop
-element-copy-out-list c = search needs
-
-mul-list-2 : tie.Need-mul-list-2 Inv-loop μ-loop
-mul-list-2 c = search needs
-
-array-write-list : tie.Need-array-write-list Inv-loop μ-loop
-array-write-list c = search needs
-
-add-i : tie.Need-add-i Inv-loop μ-loop
-add-i c = search needs
-
-loop-less : tie.Need-loop-less Inv-loop μ-loop
-loop-less c = search needs
-
 loop-again : tie.Need-loop-again Inv-loop μ-loop
 loop-again c =
-    let a = c .before .before .before .args in
+    let a = entry c .args in
     let h = c .before .before .loop in
     let all : List ℕ = wordsFrom (a .at) 8 (a .words .now) in
     let l : h .i < 8 = omega arith in
@@ -64,12 +47,12 @@ eight-spec =
     Inv-loop
     μ-loop
     loop-holds
-    add-list
-    mul-list
-    element-copy-out-list
-    mul-list-2
-    array-write-list
-    add-i
-    loop-less
+    (λ c. search needs)
+    (λ c. search needs)
+    (λ c. search needs)
+    (λ c. search needs)
+    (λ c. search needs)
+    (λ c. search needs)
+    (λ c. search needs)
     loop-again
     returns)

@@ -1,6 +1,6 @@
 -- `pass::block::found` meets its contract.
 use mathlib.Core.Path.{refl}
-use Rattle.kept.specs.Kept.{zeros}
+use Rattle.tally.specs.Tally.{zeros}
 use Rattle.pass.proofs.block.found.Statement.{statement}
 use Rattle.pass.proofs.block.found.Tie as tie
 

@@ -3,7 +3,7 @@ use Prim.Native.Nat.{ℕ, _-_}
 use native.Mathlib.Omega.{arith}
 use lib.Dec.{eqb}
 use lib.ListN.{getD}
-use Rattle.lists.proofs.Sought.{Seeking, seek-start, seek-hit, seek-miss, seek-end}
+use Rattle.lists.proofs.RangeLoops.{Seeking, seek-start, seek-hit, seek-miss, seek-end}
 use borrow.Author.Tests.{eq-eqb, ne-eqb}
 use Rattle.pass.proofs.block.lane_of.Statement.{statement}
 use Rattle.pass.proofs.block.lane_of.Tie as tie
@@ -17,20 +17,8 @@ abbrev μ-loop : tie.MeasureT-loop
 loop-holds : tie.Need-loop-holds Inv-loop μ-loop
 loop-holds c = seek-start _ _ _ (omega arith)
 
-mul-if1 : tie.Need-mul-if1 Inv-loop μ-loop
-mul-if1 c = omega arith
-
-array-read-if1 : tie.Need-array-read-if1 Inv-loop μ-loop
-array-read-if1 c = omega arith
-
 returns : tie.Need-returns Inv-loop μ-loop
 returns c = seek-hit _ (c .before .before .loop .inv) (omega arith) (eq-eqb _ _ (c .if1 .taken))
-
-add-i : tie.Need-add-i Inv-loop μ-loop
-add-i c = omega arith
-
-loop-less : tie.Need-loop-less Inv-loop μ-loop
-loop-less c = omega arith
 
 loop-again : tie.Need-loop-again Inv-loop μ-loop
 loop-again c = seek-miss _ (c .before .before .loop .inv) (omega arith) (ne-eqb _ _ (c .if1 .left))
@@ -45,10 +33,10 @@ lane-of-spec =
     Inv-loop
     μ-loop
     loop-holds
-    mul-if1
-    array-read-if1
+    (λ c. omega arith)
+    (λ c. omega arith)
     returns
-    add-i
-    loop-less
+    (λ c. omega arith)
+    (λ c. omega arith)
     loop-again
     returns-2)

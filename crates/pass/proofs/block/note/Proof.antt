@@ -5,13 +5,13 @@ use mathlib.Core.Logic.{⊎-elim}
 use mathlib.Core.Path.{_≡_, ap, _∙_}
 use lib.ListN.{length, take}
 use borrow.Author.Needs.{needs}
-use Rattle.kept.specs.Kept.{noteAll}
-use Rattle.pass.proofs.Loops.{Noted, noted-start, noted-hit, noted-miss}
+use Rattle.tally.specs.Tally.{noteAll}
+use Rattle.pass.proofs.BlockLoops.{BlockNoted, noted-start, noted-hit, noted-miss}
 use Rattle.pass.proofs.block.note.Statement.{statement}
 use Rattle.pass.proofs.block.note.Tie as tie
 
 abbrev Inv-loop : tie.InvT-loop
-Inv-loop filled taken block next₀ i₀ next i = (i ≤ filled) × (length block ≡ 16) × Noted next₀ taken block next i
+Inv-loop filled taken block next₀ i₀ next i = (i ≤ filled) × (length block ≡ 16) × BlockNoted next₀ taken block next i
 
 abbrev μ-loop : tie.MeasureT-loop
 μ-loop filled taken block next₀ i₀ next i = filled - i
@@ -19,44 +19,11 @@ abbrev μ-loop : tie.MeasureT-loop
 loop-holds : tie.Need-loop-holds Inv-loop μ-loop
 loop-holds c = (omega arith, search needs, noted-start _ _ _ (search needs))
 
-mul-if1 : tie.Need-mul-if1 Inv-loop μ-loop
-mul-if1 c = omega arith
-
-array-read-if1 : tie.Need-array-read-if1 Inv-loop μ-loop
-array-read-if1 c = omega arith
-
-mul-if1-2 : tie.Need-mul-if1-2 Inv-loop μ-loop
-mul-if1-2 c = omega arith
-
-array-read-if1-2 : tie.Need-array-read-if1-2 Inv-loop μ-loop
-array-read-if1-2 c = omega arith
-
-add-next : tie.Need-add-next Inv-loop μ-loop
-add-next c = omega arith
-
-add-next-2 : tie.Need-add-next-2 Inv-loop μ-loop
-add-next-2 c = omega arith
-
-cast-next : tie.Need-cast-next Inv-loop μ-loop
-cast-next c = omega arith
-
-mul-next : tie.Need-mul-next Inv-loop μ-loop
-mul-next c = omega arith
-
-array-write-next : tie.Need-array-write-next Inv-loop μ-loop
-array-write-next c = omega arith
-
-add-i : tie.Need-add-i Inv-loop μ-loop
-add-i c = omega arith
-
-loop-less : tie.Need-loop-less Inv-loop μ-loop
-loop-less c = omega arith
-
 loop-again : tie.Need-loop-again Inv-loop μ-loop
 loop-again c =
     let h = c .before .before .loop in
     let s = c .before .before .before in
-    let further : Noted (s .args .free) (s .args .taken) (s .args .t1) (c .if1 .next) (h .i + 1) =
+    let further : BlockNoted (s .args .free) (s .args .taken) (s .args .t1) (c .if1 .next) (h .i + 1) =
     ⊎-elim
     (λ w. rw (w .1) (noted-hit _ _ _ (h .inv .2) (omega arith) (s .pre .aligned) (omega arith) (w .0 .taken)))
     (λ w. rw (w .1) (noted-miss _ _ _ (h .inv .2) (omega arith) (s .pre .aligned) (omega arith) (w .0 .left)))
@@ -77,16 +44,16 @@ note-spec =
     Inv-loop
     μ-loop
     loop-holds
-    mul-if1
-    array-read-if1
-    mul-if1-2
-    array-read-if1-2
-    add-next
-    add-next-2
-    cast-next
-    mul-next
-    array-write-next
-    add-i
-    loop-less
+    (λ c. omega arith)
+    (λ c. omega arith)
+    (λ c. omega arith)
+    (λ c. omega arith)
+    (λ c. omega arith)
+    (λ c. omega arith)
+    (λ c. omega arith)
+    (λ c. omega arith)
+    (λ c. omega arith)
+    (λ c. omega arith)
+    (λ c. omega arith)
     loop-again
     returns)

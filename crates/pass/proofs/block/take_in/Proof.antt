@@ -8,11 +8,11 @@ use mathlib.Core.Path.{_≡_, refl, sym, ap, ap₂, _∙_}
 use lib.Dec.{eqb}
 use lib.ListN.{length, getD, take, drop, set, length-set}
 use lib.Seq.{take-all}
-use Rattle.lists.proofs.Sought.{anyAhead, any-start, Asked, asked-next, asked-end}
-use Rattle.lists.proofs.Written.{write-next}
-use Rattle.kept.specs.Kept.{isOwn, countAll}
+use Rattle.lists.proofs.RangeLoops.{anyAhead, any-start, Asked, asked-next, asked-end}
+use Rattle.lists.proofs.WrittenLists.{write-next}
+use Rattle.tally.specs.Tally.{isOwn}
 use Rattle.pass.specs.Steps.{matters}
-use Rattle.pass.proofs.Loops.{Counted, counted-start, counted-next, one-at-most}
+use Rattle.pass.proofs.BlockLoops.{Counted, counted-start, counted-next, counted-small, counted-end}
 use Rattle.pass.proofs.block.take_in.Statement.{statement}
 use Rattle.pass.proofs.block.take_in.Tie as tie
 
@@ -26,6 +26,13 @@ Inv-loop words word first free held₀ block₀ stop₀ i₀ held block stop i =
 
 abbrev μ-loop : tie.MeasureT-loop
 μ-loop words word first free held₀ block₀ stop₀ i₀ held block stop i = length words - i
+
+-- earlier places of the code
+abbrev entry-from-at-loop : tie.At-loop Inv-loop μ-loop → tie.Start Inv-loop μ-loop
+entry-from-at-loop c = c .before .before
+
+abbrev at-loop : tie.After-held Inv-loop μ-loop → tie.At-loop Inv-loop μ-loop
+at-loop c = c .before .before .before
 
 -- the places: the entry, and the turn of the loop
 abbrev turn : tie.After-is-own Inv-loop μ-loop → tie.At-loop Inv-loop μ-loop
@@ -41,50 +48,13 @@ either false b c = refl
 loop-holds : tie.Need-loop-holds Inv-loop μ-loop
 loop-holds c =
     let s = c .before in
-    (omega arith, sym (s .pre .2), refl, counted-start _ _ _ (sym (s .pre .1)) (s .pre .4), any-start _ (length (s .args .words .now)))
-
-mul-held-word : tie.Need-mul-held-word Inv-loop μ-loop
-mul-held-word c = omega arith
-
-shared-slice-read-held-word : tie.Need-shared-slice-read-held-word Inv-loop μ-loop
-shared-slice-read-held-word c = omega arith
-
-mul-block : tie.Need-mul-block Inv-loop μ-loop
-mul-block c = omega arith
-
-element-write-block : tie.Need-element-write-block Inv-loop μ-loop
-element-write-block c = omega arith
-
-mul-held : tie.Need-mul-held Inv-loop μ-loop
-mul-held c = omega arith
-
-element-copy-out-held : tie.Need-element-copy-out-held Inv-loop μ-loop
-element-copy-out-held c = omega arith
+    (omega arith, sym (s .pre .3), refl, counted-start _ _ _ (s .pre .2), any-start _ (length (s .args .words .now)))
 
 is-own-requires : tie.Need-is-own-requires Inv-loop μ-loop
-is-own-requires c κs = c .before .before .before .before .before .pre .3
+is-own-requires c κs = entry-from-at-loop (at-loop c) .pre .1
 
 add-held : tie.Need-add-held Inv-loop μ-loop
-add-held c =
-    omega (arith, turn c .loop .inv .3 .room (turn c .loop .i), one-at-most (isOwn (entry c .args .first) (getD (entry c .args .words .now) (turn c .loop .i) 0)) _ (c .is-own .ensures))
-
-mul-held-2 : tie.Need-mul-held-2 Inv-loop μ-loop
-mul-held-2 c = omega arith
-
-element-write-held : tie.Need-element-write-held Inv-loop μ-loop
-element-write-held c = omega arith
-
-mul-stop : tie.Need-mul-stop Inv-loop μ-loop
-mul-stop c = omega arith
-
-element-copy-out-stop : tie.Need-element-copy-out-stop Inv-loop μ-loop
-element-copy-out-stop c = omega arith
-
-add-i : tie.Need-add-i Inv-loop μ-loop
-add-i c = omega arith
-
-loop-less : tie.Need-loop-less Inv-loop μ-loop
-loop-less c = omega arith
+add-held c = omega (arith, counted-small _ _ _ (turn c .loop .inv .3) (omega arith) (omega arith) _ (c .is-own .ensures))
 
 loop-again : tie.Need-loop-again Inv-loop μ-loop
 loop-again c =
@@ -106,13 +76,13 @@ loop-again c =
 returns : tie.Need-returns Inv-loop μ-loop
 returns c =
     let h = c .before .loop in
-    let a = c .before .before .before .args in
+    let a = entry-from-at-loop (c .before) .args in
     let t : List ℕ = a .words .now in
     let all : take (h .i) t ≡ t = take-all (h .i) t (omega arith) in
     let end : h .i ≡ length t = omega arith in (
       asked-end (matters t (a .word) (a .free .now)) (length t) (h .i) (h .stop) (omega arith) (h .inv .4),
       (
-        h .inv .3 .so-far ∙ ap (countAll (isOwn (a .first)) (a .held .now) 0) all,
+        counted-end _ _ _ (h .inv .3) (omega arith),
         h .inv .2 ∙ ap₂ (λ (xs : List ℕ) (j : ℕ). xs ++ drop j (a .block .now)) all end,
       ),
     )
@@ -124,19 +94,19 @@ take-in-spec =
     Inv-loop
     μ-loop
     loop-holds
-    mul-held-word
-    shared-slice-read-held-word
-    mul-block
-    element-write-block
-    mul-held
-    element-copy-out-held
+    (λ c. omega arith)
+    (λ c. omega arith)
+    (λ c. omega arith)
+    (λ c. omega arith)
+    (λ c. omega arith)
+    (λ c. omega arith)
     is-own-requires
     add-held
-    mul-held-2
-    element-write-held
-    mul-stop
-    element-copy-out-stop
-    add-i
-    loop-less
+    (λ c. omega arith)
+    (λ c. omega arith)
+    (λ c. omega arith)
+    (λ c. omega arith)
+    (λ c. omega arith)
+    (λ c. omega arith)
     loop-again
     returns)

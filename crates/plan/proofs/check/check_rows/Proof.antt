@@ -1,11 +1,11 @@
--- `plan::check::check_rows` meets its contract: refusals 17 to 20 in their order (`Faults`).
+-- `plan::check::check_rows` meets its contract: refusals 17 to 20 in their order (`RowFaults`).
 use mathlib.Core.Bool.{false}
 use mathlib.Core.Path.{_≡_}
 use lib.Dec.{ltb}
 use borrow.Author.Tests.{lt-ltb, le-ltb}
 use borrow.Author.Needs.{needs}
 use Rattle.rows.specs.RowWords.{vcpuRows, taskRows}
-use Rattle.plan.proofs.Faults.{wrongVcpu, wrongTask, wrongOrder, row-reply}
+use Rattle.plan.proofs.RowFaults.{wrongVcpu, wrongTask, wrongOrder, row-reply}
 use Rattle.plan.proofs.check.check_rows.Statement.{statement}
 use Rattle.plan.proofs.check.check_rows.Tie as tie
 
@@ -28,34 +28,16 @@ passes-18 c = rw (← c .before .wrong-task .ensures) (le-ltb _ _ (c .if2 .left)
 passes-19 : (c : tie.Else3) → let a = entry (past-17 (past-18 c) .before) .args in ltb (wrongOrder (a .board) (a .vcpus .now) (a .tasks .now)) (taskRows (a .tasks .now)) ≡ false
 passes-19 c = rw (← c .before .wrong-order .ensures) (le-ltb _ _ (c .if3 .left))
 
-cast-vcpu-rows : tie.Need-cast-vcpu-rows
-cast-vcpu-rows c = search needs
-
-wrong-vcpu-requires : tie.Need-wrong-vcpu-requires
-wrong-vcpu-requires c κs = search needs
-
 returns : tie.Need-returns
 returns c = rw (row-reply _ _ _, ← c .before .wrong-vcpu .ensures, lt-ltb _ _ (c .if1 .taken))
 
-cast-rows : tie.Need-cast-rows
-cast-rows c = search needs
-
-wrong-task-requires : tie.Need-wrong-task-requires
-wrong-task-requires c κs = search needs
-
 returns-2 : tie.Need-returns-2
 returns-2 c = rw (row-reply _ _ _, passes-17 (c .before .before), ← c .before .wrong-task .ensures, lt-ltb _ _ (c .if2 .taken))
-
-wrong-order-requires : tie.Need-wrong-order-requires
-wrong-order-requires c κs = search needs
 
 returns-3 : tie.Need-returns-3
 returns-3 c =
     let d = c .before .before in
     rw (row-reply _ _ _, passes-17 (past-17 d), passes-18 d, ← c .before .wrong-order .ensures, lt-ltb _ _ (c .if3 .taken))
-
-shared-colour-requires : tie.Need-shared-colour-requires
-shared-colour-requires c κs = search needs
 
 returns-4 : tie.Need-returns-4
 returns-4 c =
@@ -71,14 +53,14 @@ pub check-rows-spec : {M : Type 1} → statement M
 check-rows-spec =
     tie.close
     (tie.spec
-    cast-vcpu-rows
-    wrong-vcpu-requires
+    (λ c. search needs)
+    (λ c κs. search needs)
     returns
-    cast-rows
-    wrong-task-requires
+    (λ c. search needs)
+    (λ c κs. search needs)
     returns-2
-    wrong-order-requires
+    (λ c κs. search needs)
     returns-3
-    shared-colour-requires
+    (λ c κs. search needs)
     returns-4
     returns-5)

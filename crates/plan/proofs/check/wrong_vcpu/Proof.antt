@@ -3,7 +3,7 @@ use Prim.Native.Nat.{_-_}
 use native.Mathlib.Omega.{arith}
 use mathlib.Core.Path.{sym, _∙_}
 use borrow.Author.Needs.{needs}
-use Rattle.lists.proofs.Sought.{Seeking, seek-start, seek-hit, seek-miss, seek-end}
+use Rattle.lists.proofs.RangeLoops.{Seeking, seek-start, seek-hit, seek-miss, seek-end}
 use Rattle.plan.specs.Tests.{badVcpu}
 use Rattle.plan.proofs.check.wrong_vcpu.Statement.{statement}
 use Rattle.plan.proofs.check.wrong_vcpu.Tie as tie
@@ -14,6 +14,10 @@ Inv-loop board vcpus rows i₀ i = Seeking (badVcpu board vcpus) 0 rows i
 abbrev μ-loop : tie.MeasureT-loop
 μ-loop board vcpus rows i₀ i = rows - i
 
+-- earlier places of the code
+abbrev at-loop : tie.After-bad-vcpu Inv-loop μ-loop → tie.At-loop Inv-loop μ-loop
+at-loop c = c .before .before
+
 loop-holds : tie.Need-loop-holds Inv-loop μ-loop
 loop-holds c = seek-start _ _ _ (omega arith)
 
@@ -21,7 +25,7 @@ bad-vcpu-requires : tie.Need-bad-vcpu-requires Inv-loop μ-loop
 bad-vcpu-requires c κs = search needs
 
 returns : tie.Need-returns Inv-loop μ-loop
-returns c = seek-hit _ (c .before .before .before .loop .inv) (omega arith) (sym (c .before .bad-vcpu .ensures) ∙ c .if1 .taken)
+returns c = seek-hit _ (at-loop (c .before) .loop .inv) (omega arith) (sym (c .before .bad-vcpu .ensures) ∙ c .if1 .taken)
 
 add-i : tie.Need-add-i Inv-loop μ-loop
 add-i c = omega arith
@@ -30,7 +34,7 @@ loop-less : tie.Need-loop-less Inv-loop μ-loop
 loop-less c = omega arith
 
 loop-again : tie.Need-loop-again Inv-loop μ-loop
-loop-again c = seek-miss _ (c .before .before .before .loop .inv) (omega arith) (sym (c .before .bad-vcpu .ensures) ∙ c .if1 .left)
+loop-again c = seek-miss _ (at-loop (c .before) .loop .inv) (omega arith) (sym (c .before .bad-vcpu .ensures) ∙ c .if1 .left)
 
 returns-2 : tie.Need-returns-2 Inv-loop μ-loop
 returns-2 c = seek-end _ (c .before .loop .inv) (omega arith)

@@ -7,9 +7,9 @@ use mathlib.Core.Path.{_≡_, refl, sym, ap, _∙_}
 use lib.Dec.{eqb, ltb}
 use borrow.Author.Tests.{ltb-false}
 use borrow.Author.Needs.{needs}
-use Rattle.lists.specs.Range.{from, any}
-use Rattle.lists.proofs.Sought.{anyAhead, any-hit, any-miss, any-end}
-use Rattle.lists.proofs.Split.{neither}
+use Rattle.lists.specs.Range.{from, anyOf}
+use Rattle.lists.proofs.RangeLoops.{anyAhead, any-hit, any-miss, any-end}
+use Rattle.lists.proofs.CaseSplits.{neither}
 use Rattle.rows.specs.RowWords.{costWith}
 use Rattle.plan.specs.Tests.{zeroOrAbove, badCost}
 use Rattle.plan.proofs.Sharing.{cost-test}
@@ -18,11 +18,18 @@ use Rattle.plan.proofs.fields.bad_costs.Tie as tie
 
 abbrev Inv-loop : tie.InvT-loop
 Inv-loop tasks row before₀ k₀ before k =
-    (1 ≤ k) × (k ≤ 17) × (any (badCost tasks row) (from 1 16) ≡ anyAhead (badCost tasks row) k 17)
+    (1 ≤ k) × (k ≤ 17) × (anyOf (badCost tasks row) (from 1 16) ≡ anyAhead (badCost tasks row) k 17)
     × (before ≤ 1000000) × (k ≡ 1 → before ≡ 1000000) × (1 < k → before ≡ costWith tasks row (k - 1))
 
 abbrev μ-loop : tie.MeasureT-loop
 μ-loop tasks row before₀ k₀ before k = 17 - k
+
+-- earlier places of the code
+abbrev entry : tie.At-loop Inv-loop μ-loop → tie.Start Inv-loop μ-loop
+entry c = c .before .before
+
+abbrev at-loop : tie.After-zero-or-above Inv-loop μ-loop → tie.At-loop Inv-loop μ-loop
+at-loop c = c .before .before .before
 
 loop-holds : tie.Need-loop-holds Inv-loop μ-loop
 unfolding anyAhead
@@ -31,38 +38,23 @@ loop-holds c = (omega arith, omega arith, refl, omega arith, λ e. refl, λ l. a
 -- the test of the code is that of the definition
 asked : (c : tie.After-zero-or-above Inv-loop μ-loop) → badCost (c .before .before .before .before .before .args .tasks .now) (c .before .before .before .before .before .args .row) (c .before .before .before .loop .k) ≡ c .zero-or-above .result
 asked c =
-    let a = c .before .before .before .before .before .args in
-    let h = c .before .before .before .loop in
+    let a = entry (at-loop c) .args in
+    let h = at-loop c .loop in
     cost-test (h .k) (h .before) (costWith (a .tasks .now) (a .row) (h .k - 1)) (costWith (a .tasks .now) (a .row) (h .k)) (h .inv .0) (h .inv .3) (h .inv .4) (h .inv .5)
     ∙ ap (zeroOrAbove (h .before)) (sym (c .before .known-word .ensures))
     ∙ sym (c .zero-or-above .ensures)
 
-add-known-word : tie.Need-add-known-word Inv-loop μ-loop
-add-known-word c = omega arith
-
-known-word-requires : tie.Need-known-word-requires Inv-loop μ-loop
-known-word-requires c κs = omega arith
-
-zero-or-above-requires : tie.Need-zero-or-above-requires Inv-loop μ-loop
-zero-or-above-requires c κs = search needs
-
 returns : tie.Need-returns Inv-loop μ-loop
 returns c =
-    let a = c .before .before .before .before .before .before .args in
-    let h = c .before .before .before .before .loop in
+    let a = entry (at-loop (c .before)) .args in
+    let h = at-loop (c .before) .loop in
     let here = asked (c .before) ∙ c .if1 .taken in
     sym (h .inv .2 ∙ any-hit (badCost (a .tasks .now) (a .row)) (h .k) 17 (omega arith) here)
 
-add-k : tie.Need-add-k Inv-loop μ-loop
-add-k c = omega arith
-
-loop-less : tie.Need-loop-less Inv-loop μ-loop
-loop-less c = omega arith
-
 loop-again : tie.Need-loop-again Inv-loop μ-loop
 loop-again c =
-    let a = c .before .before .before .before .before .before .args in
-    let h = c .before .before .before .before .loop in
+    let a = entry (at-loop (c .before)) .args in
+    let h = at-loop (c .before) .loop in
     let cost = c .before .before .known-word in
     let here = asked (c .before) ∙ c .if1 .left in
     let kept : zeroOrAbove (h .before) (cost .result) ≡ false = sym (c .before .zero-or-above .ensures) ∙ c .if1 .left in
@@ -78,7 +70,7 @@ loop-again c =
 
 returns-2 : tie.Need-returns-2 Inv-loop μ-loop
 returns-2 c =
-    let a = c .before .before .before .args in
+    let a = entry (c .before) .args in
     let h = c .before .loop in
     sym (h .inv .2 ∙ any-end (badCost (a .tasks .now) (a .row)) (h .k) 17 (omega arith))
 
@@ -89,11 +81,11 @@ bad-costs-spec =
     Inv-loop
     μ-loop
     loop-holds
-    add-known-word
-    known-word-requires
-    zero-or-above-requires
+    (λ c. omega arith)
+    (λ c κs. omega arith)
+    (λ c κs. search needs)
     returns
-    add-k
-    loop-less
+    (λ c. omega arith)
+    (λ c. omega arith)
     loop-again
     returns-2)

@@ -3,27 +3,6 @@ use borrow.Author.Needs.{needs}
 use Rattle.plan.proofs.fields.bad_fields.Statement.{statement}
 use Rattle.plan.proofs.fields.bad_fields.Tie as tie
 
-known-word-requires : tie.Need-known-word-requires
-known-word-requires c κs = search needs
-
-known-word-requires-2 : tie.Need-known-word-requires-2
-known-word-requires-2 c κs = search needs
-
-known-word-requires-3 : tie.Need-known-word-requires-3
-known-word-requires-3 c κs = search needs
-
-known-word-requires-4 : tie.Need-known-word-requires-4
-known-word-requires-4 c κs = search needs
-
-cast-known : tie.Need-cast-known
-cast-known c = search needs
-
-bad-times-requires : tie.Need-bad-times-requires
-bad-times-requires c κs = search needs
-
-bad-set-requires : tie.Need-bad-set-requires
-bad-set-requires c κs = search needs
-
 returns : tie.Need-returns
 returns c = simp (← c .before .before .before .before .known-word .ensures, c .if1 .taken)
 
@@ -41,13 +20,13 @@ pub bad-fields-spec : {M : Type 1} → statement M
 bad-fields-spec =
     tie.close
     (tie.spec
-    known-word-requires
-    known-word-requires-2
-    known-word-requires-3
-    known-word-requires-4
-    cast-known
-    bad-times-requires
-    bad-set-requires
+    (λ c κs. search needs)
+    (λ c κs. search needs)
+    (λ c κs. search needs)
+    (λ c κs. search needs)
+    (λ c. search needs)
+    (λ c κs. search needs)
+    (λ c κs. search needs)
     returns
     returns-2
     returns-3)

@@ -6,7 +6,7 @@ use mathlib.Core.Bool.{true, false}
 use mathlib.Core.Logic.{⊎-elim}
 use mathlib.Core.Path.{_≡_, sym, _∙_}
 use borrow.Author.Tests.{eq-eqb, ne-eqb}
-use Rattle.lists.proofs.Sought.{anyAhead, any-hit, any-miss, any-end}
+use Rattle.lists.proofs.RangeLoops.{anyAhead, any-hit, any-miss, any-end}
 use Rattle.rows.specs.RowWords.{vcpuOf, colourSet, taskRows}
 use Rattle.plan.specs.Tests.{sharesColour}
 use Rattle.plan.proofs.Sharing.{sharing, shares-later}
@@ -19,44 +19,30 @@ Inv-loop tasks rows row vcpu set k₀ k = (k ≤ rows) × (vcpu ≡ vcpuOf tasks
 abbrev μ-loop : tie.MeasureT-loop
 μ-loop tasks rows row vcpu set k₀ k = rows - k
 
+-- earlier places of the code
+abbrev entry-from-known-word2 : tie.After-known-word2 Inv-loop μ-loop → tie.Start Inv-loop μ-loop
+entry-from-known-word2 c = c .before .before .before
+
+abbrev after-known-word3 : tie.Then2 Inv-loop μ-loop → tie.After-known-word3 Inv-loop μ-loop
+after-known-word3 c = c .before .before .before
+
 -- the places: the entry and the turn of the loop
 abbrev entry : tie.In-loop Inv-loop μ-loop → tie.Start Inv-loop μ-loop
 entry c = c .before .before .before .before .before
 
-known-word-requires : tie.Need-known-word-requires Inv-loop μ-loop
-known-word-requires c κs = omega arith
-
-known-word-requires-2 : tie.Need-known-word-requires-2 Inv-loop μ-loop
-known-word-requires-2 c κs = omega arith
-
-add-k : tie.Need-add-k Inv-loop μ-loop
-add-k c = omega arith
-
 loop-holds : tie.Need-loop-holds Inv-loop μ-loop
 loop-holds c =
-    let s = c .before .before .before in
+    let s = entry-from-known-word2 c in
     let a = s .args in
     (omega arith, c .before .known-word .ensures, c .known-word2 .ensures, shares-later (a .tasks .now) (a .row) (omega (arith, s .pre .0, s .pre .1)) (s .pre .2))
 
-known-word-requires-3 : tie.Need-known-word-requires-3 Inv-loop μ-loop
-known-word-requires-3 c κs = omega arith
-
-known-word-requires-4 : tie.Need-known-word-requires-4 Inv-loop μ-loop
-known-word-requires-4 c κs = omega arith
-
 returns : tie.Need-returns Inv-loop μ-loop
 returns c =
-    let d = c .before .before .before .before in
+    let d = after-known-word3 c .before in
     let a = entry d .args in
     let h = d .before .loop in
-    let here : sharing (a .tasks .now) (a .row) (h .k) ≡ true = simp (← h .inv .1, ← h .inv .2, ← c .before .known-word4 .ensures, ← c .before .before .before .known-word3 .ensures, ne-eqb _ _ (c .before .before .if1 .taken), c .if2 .taken) in
+    let here : sharing (a .tasks .now) (a .row) (h .k) ≡ true = simp (← h .inv .1, ← h .inv .2, ← c .before .known-word4 .ensures, ← after-known-word3 c .known-word3 .ensures, ne-eqb _ _ (c .before .before .if1 .taken), c .if2 .taken) in
     sym (h .inv .3 ∙ any-hit (sharing (a .tasks .now) (a .row)) (h .k) (taskRows (a .tasks .now)) (omega arith) here)
-
-add-k-2 : tie.Need-add-k-2 Inv-loop μ-loop
-add-k-2 c = omega arith
-
-loop-less : tie.Need-loop-less Inv-loop μ-loop
-loop-less c = omega arith
 
 loop-again : tie.Need-loop-again Inv-loop μ-loop
 loop-again c =
@@ -72,7 +58,7 @@ loop-again c =
 
 returns-2 : tie.Need-returns-2 Inv-loop μ-loop
 returns-2 c =
-    let a = c .before .before .before .before .before .args in
+    let a = entry-from-known-word2 (c .before .before) .args in
     let h = c .before .loop in
     sym (h .inv .3 ∙ any-end (sharing (a .tasks .now) (a .row)) (h .k) (taskRows (a .tasks .now)) (omega arith))
 
@@ -82,14 +68,14 @@ shares-colour-spec =
     (tie.spec
     Inv-loop
     μ-loop
-    known-word-requires
-    known-word-requires-2
-    add-k
+    (λ c κs. omega arith)
+    (λ c κs. omega arith)
+    (λ c. omega arith)
     loop-holds
-    known-word-requires-3
-    known-word-requires-4
+    (λ c κs. omega arith)
+    (λ c κs. omega arith)
     returns
-    add-k-2
-    loop-less
+    (λ c. omega arith)
+    (λ c. omega arith)
     loop-again
     returns-2)

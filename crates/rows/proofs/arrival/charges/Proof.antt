@@ -13,6 +13,10 @@ Inv-loop reload tasks i found₀ j₀ held₀ found j held = Charging reload tas
 abbrev μ-loop : tie.MeasureT-loop
 μ-loop reload tasks i found₀ j₀ held₀ found j held = j
 
+-- earlier places of the code
+abbrev entry-from-task-word : tie.After-task-word Inv-loop μ-loop → tie.Start Inv-loop μ-loop
+entry-from-task-word c = c .before .before .before
+
 -- the places: the entry and the turn of the loop
 abbrev entry : tie.In-loop Inv-loop μ-loop → tie.Start Inv-loop μ-loop
 entry c = c .before .before .before .before .before
@@ -20,37 +24,10 @@ entry c = c .before .before .before .before .before
 abbrev turn : tie.After-charge Inv-loop μ-loop → tie.In-loop Inv-loop μ-loop
 turn c = c .before
 
-planned-requires : tie.Need-planned-requires Inv-loop μ-loop
-planned-requires c κs = search needs
-
-task-word-requires : tie.Need-task-word-requires Inv-loop μ-loop
-task-word-requires c κs = search needs
-
 loop-holds : tie.Need-loop-holds Inv-loop μ-loop
 loop-holds c =
-    let a = c .before .before .before .args in
+    let a = entry-from-task-word c .args in
     charging-start (a .reload) (a .tasks .now) (a .i) _ _ (c .before .planned .ensures) (c .task-word .ensures)
-
-sub-j : tie.Need-sub-j Inv-loop μ-loop
-sub-j c = omega arith
-
-cast-k : tie.Need-cast-k Inv-loop μ-loop
-cast-k c = omega arith
-
-charge-requires : tie.Need-charge-requires Inv-loop μ-loop
-charge-requires c κs = search needs
-
-mul-found : tie.Need-mul-found Inv-loop μ-loop
-mul-found c = omega arith
-
-array-write-found : tie.Need-array-write-found Inv-loop μ-loop
-array-write-found c = omega arith
-
-task-word-requires-2 : tie.Need-task-word-requires-2 Inv-loop μ-loop
-task-word-requires-2 c κs = search needs
-
-loop-less : tie.Need-loop-less Inv-loop μ-loop
-loop-less c = omega arith
 
 loop-again : tie.Need-loop-again Inv-loop μ-loop
 loop-again c =
@@ -61,7 +38,7 @@ loop-again c =
     (cc (c .task-word2 .ensures, or-comm (c .task-word2 .result) (h .held)))
 
 returns : tie.Need-returns Inv-loop μ-loop
-returns c = let a = c .before .before .before .before .before .args in charging-end (a .reload) (a .tasks .now) (a .i) (c .before .loop .inv) (omega arith)
+returns c = let a = entry-from-task-word (c .before .before) .args in charging-end (a .reload) (a .tasks .now) (a .i) (c .before .loop .inv) (omega arith)
 
 pub charges-spec : {M : Type 1} → statement M
 charges-spec =
@@ -69,15 +46,15 @@ charges-spec =
     (tie.spec
     Inv-loop
     μ-loop
-    planned-requires
-    task-word-requires
+    (λ c κs. search needs)
+    (λ c κs. search needs)
     loop-holds
-    sub-j
-    cast-k
-    charge-requires
-    mul-found
-    array-write-found
-    task-word-requires-2
-    loop-less
+    (λ c. omega arith)
+    (λ c. omega arith)
+    (λ c κs. search needs)
+    (λ c. omega arith)
+    (λ c. omega arith)
+    (λ c κs. search needs)
+    (λ c. omega arith)
     loop-again
     returns)

@@ -3,7 +3,7 @@ use Prim.Native.Nat.{_-_}
 use native.Mathlib.Omega.{arith}
 use mathlib.Core.Bool.{not}
 use mathlib.Core.Path.{_≡_, refl, ap}
-use Rattle.lists.proofs.Sought.{Seeking, seek-start, seek-hit, seek-miss, seek-end}
+use Rattle.lists.proofs.RangeLoops.{Seeking, seek-start, seek-hit, seek-miss, seek-end}
 use Rattle.rows.specs.RowWords.{taskRows}
 use Rattle.rows.proofs.Parts.{other, is-own, not-own}
 use Rattle.rows.proofs.own_rows.next_other.Statement.{statement}
@@ -14,6 +14,10 @@ Inv-loop tasks start vcpu rows j₀ j = (rows ≡ taskRows tasks) × Seeking (ot
 
 abbrev μ-loop : tie.MeasureT-loop
 μ-loop tasks start vcpu rows j₀ j = rows - j
+
+-- earlier places of the code
+abbrev at-loop : tie.After-shared-slice-known Inv-loop μ-loop → tie.At-loop Inv-loop μ-loop
+at-loop c = c .before .before
 
 loop-holds : tie.Need-loop-holds Inv-loop μ-loop
 loop-holds c = (refl, seek-start _ _ _ (omega arith))
@@ -29,7 +33,7 @@ shared-slice-read-if1 c = omega arith
 
 returns : tie.Need-returns Inv-loop μ-loop
 returns c =
-    let h = c .before .before .before in
+    let h = at-loop (c .before) in
     seek-hit _ (h .loop .inv .1) (omega arith) (ap not (not-own (h .before .args .tasks .now) _ (h .loop .j) (c .if1 .taken)))
 
 add-j : tie.Need-add-j Inv-loop μ-loop
@@ -40,7 +44,7 @@ loop-less c = omega arith
 
 loop-again : tie.Need-loop-again Inv-loop μ-loop
 loop-again c =
-    let h = c .before .before .before in
+    let h = at-loop (c .before) in
     (h .loop .inv .0, seek-miss _ (h .loop .inv .1) (omega arith) (ap not (is-own (h .before .args .tasks .now) _ (h .loop .j) (c .if1 .left))))
 
 returns-2 : tie.Need-returns-2 Inv-loop μ-loop

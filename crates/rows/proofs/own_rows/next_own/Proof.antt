@@ -2,7 +2,7 @@
 use Prim.Native.Nat.{_-_}
 use native.Mathlib.Omega.{arith}
 use mathlib.Core.Path.{_≡_, refl, sym, _∙_}
-use Rattle.lists.proofs.Sought.{sought-hit, sought-miss, sought-end}
+use Rattle.lists.proofs.RangeLoops.{sought-hit, sought-miss, sought-end}
 use Rattle.rows.specs.RowWords.{taskRows}
 use Rattle.rows.specs.Part.{nextOwn}
 use Rattle.rows.proofs.Parts.{is-own, not-own}
@@ -14,6 +14,10 @@ Inv-loop tasks from vcpu rows j₀ j = (rows ≡ taskRows tasks) × (nextOwn tas
 
 abbrev μ-loop : tie.MeasureT-loop
 μ-loop tasks from vcpu rows j₀ j = rows - j
+
+-- earlier places of the code
+abbrev at-loop : tie.After-shared-slice-known Inv-loop μ-loop → tie.At-loop Inv-loop μ-loop
+at-loop c = c .before .before
 
 loop-holds : tie.Need-loop-holds Inv-loop μ-loop
 loop-holds c = (refl, refl)
@@ -29,7 +33,7 @@ shared-slice-read-if1 c = omega arith
 
 returns : tie.Need-returns Inv-loop μ-loop
 returns c =
-    let h = c .before .before .before in
+    let h = at-loop (c .before) in
     sym (h .loop .inv .1 ∙ sought-hit _ _ _ (omega arith) (is-own (h .before .args .tasks .now) _ (h .loop .j) (c .if1 .taken)))
 
 add-j : tie.Need-add-j Inv-loop μ-loop
@@ -40,7 +44,7 @@ loop-less c = omega arith
 
 loop-again : tie.Need-loop-again Inv-loop μ-loop
 loop-again c =
-    let h = c .before .before .before in
+    let h = at-loop (c .before) in
     (h .loop .inv .0, h .loop .inv .1 ∙ sought-miss _ _ _ (omega arith) (not-own (h .before .args .tasks .now) _ (h .loop .j) (c .if1 .left)))
 
 returns-2 : tie.Need-returns-2 Inv-loop μ-loop

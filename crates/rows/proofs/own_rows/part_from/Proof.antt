@@ -8,12 +8,16 @@ use borrow.Author.Needs.{needs}
 use Rattle.rows.proofs.own_rows.part_from.Statement.{statement}
 use Rattle.rows.proofs.own_rows.part_from.Tie as tie
 
+-- earlier places of the code
+abbrev entry : tie.After-next-other → tie.Start
+entry c = c .before .before .before
+
 start : (c : tie.After-next-own) → c .next-own .result ≤ taskRows (c .before .before .args .tasks .now)
 start c = let a = c .before .before .args in rw (c .next-own .ensures) (sought-within (own (a .tasks .now) (a .vcpu)) (a .from) _)
 
 end : (c : tie.After-next-other) → (c .before .next-own .result ≤ c .next-other .result) × (c .next-other .result ≤ taskRows (c .before .before .before .args .tasks .now))
 end c =
-    let a = c .before .before .before .args in
+    let a = entry c .args in
     let p = other (a .tasks .now) (a .vcpu) in
     rw (c .next-other .ensures) (sought-ge p (c .before .next-own .result) _ (start (c .before)), sought-within p (c .before .next-own .result) _)
 

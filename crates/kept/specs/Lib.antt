@@ -1,3 +1,0 @@
--- The definitions of `kept`.
-pub mod Kept
-pub mod Lanes

@@ -1,0 +1,2 @@
+-- The limits of the frame table.
+pub mod Limits

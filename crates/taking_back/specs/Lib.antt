@@ -1,0 +1,2 @@
+-- What the code of a taking back goes by.
+pub mod Triples

@@ -1,0 +1,3 @@
+-- The laws of `tally`.
+pub mod ClosedForm
+pub mod TableLanes

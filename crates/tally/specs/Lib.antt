@@ -1,0 +1,3 @@
+-- The definitions of `tally`.
+pub mod Tally
+pub mod Lanes

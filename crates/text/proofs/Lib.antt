@@ -1,0 +1,3 @@
+-- The laws of `text`.
+pub mod Decimal
+pub mod Lines
