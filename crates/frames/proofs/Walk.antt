@@ -42,15 +42,6 @@ module _ {M : Type 1} {𝓤 : URA M} {H : Heap 𝓤} {A : Atoms 𝓤} {K : Type 
     closed t z R vals makes x h is =
         step (λ s. owned t R (Is R) makes h (vals h) is $ move t (1 ∷ 0 ∷ []) $ closes t z R h (vals h) (x .ptr .0) (x .ptr .1) $ feqI t (List Val) (ptr-vals x) (ptr-vals x) refl $ fjoin3 t $ s)
 
-  -- an `ensures` that states two facts, and one that states four
+  -- an `ensures` that states two facts
   pub says-two : K → {φ ψ : Type 0} {P : SProp 𝓤} → φ → ψ → Step K W Γ (prop P) Γ (prop (sep 𝓤 P (sep 𝓤 (fact 𝓤 φ) (fact 𝓤 ψ))))
   says-two t {φ} {ψ} {P} x y = step (λ s. suffices t (sep 𝓤 (sep 𝓤 P (fact 𝓤 φ)) (fact 𝓤 ψ)) (assoc∗ 𝓤 P (fact 𝓤 φ) (fact 𝓤 ψ)) $ says t y $ says t x $ s)
-
-  pub says-four : K → {φ ψ χ ω : Type 0} {P : SProp 𝓤} → φ → ψ → χ → ω
-      → Step K W Γ (prop P) Γ (prop (sep 𝓤 P (sep 𝓤 (fact 𝓤 φ) (sep 𝓤 (fact 𝓤 ψ) (sep 𝓤 (fact 𝓤 χ) (fact 𝓤 ω))))))
-  says-four t {φ} {ψ} {χ} {ω} {P} x y z w =
-      let P₁ : SProp 𝓤 = sep 𝓤 P (fact 𝓤 φ) in
-      let P₂ : SProp 𝓤 = sep 𝓤 P₁ (fact 𝓤 ψ) in
-      let Q : SProp 𝓤 = sep 𝓤 (fact 𝓤 χ) (fact 𝓤 ω) in
-      step (λ s. suffices t (sep 𝓤 P₁ (sep 𝓤 (fact 𝓤 ψ) Q)) (assoc∗ 𝓤 P (fact 𝓤 φ) (sep 𝓤 (fact 𝓤 ψ) Q)) $
-      suffices t (sep 𝓤 P₂ Q) (assoc∗ 𝓤 P₁ (fact 𝓤 ψ) Q) $ says-two t z w $ says t y $ says t x $ s)
