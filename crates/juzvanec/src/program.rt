@@ -5,14 +5,13 @@ ghost use Rattle.report.specs.Report.{verdict, wordsTaken, textOf};
 ghost use Rattle.text.specs.Text.{over};
 ghost use Rattle.marshal.specs.Replies.{numberOf, rowOf};
 use marshal::admitted;
-use text::TEXT_BYTES;
 
 // The verdict on an input. The text has `length` bytes and stands in front of `text`; the plan took
 // `words` words of the input.
 #[no_mangle]
 pub extern "C" fn juzvanec_admit(
     input: &[u8],
-    text: &mut [u8; TEXT_BYTES],
+    text: &mut [u8; 1024],
     length: &mut u32,
     words: &mut u32,
     row: &mut u32,
