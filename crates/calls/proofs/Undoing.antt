@@ -57,14 +57,14 @@ moves-length t [] = refl
 moves-length t (m ∷ ms) = moves-length (move t m) ms ∙ move-length t m
 
 -- A move between two frames of the table
-abbrev Within : ℕ → Move → Type 0
-Within n m = (m .source < n) × (m .target < n) × (m .source ≡ m .target → ⊥)
+abbrev FramesBelow : ℕ → Move → Type 0
+FramesBelow n m = (m .source < n) × (m .target < n) × (m .source ≡ m .target → ⊥)
 
 -- after moves that are apart each new frame has the word of the old one, which is free
 abbrev Carried : List ℕ → List ℕ → Move → Type 0
 Carried t u m = (word u (m .target) ≡ word t (m .source)) × (word u (m .source) ≡ 0)
 
-carried : (t : List ℕ) (ms : List Move) → Sorted Apart ms → EachMove (Within (length t)) ms → EachMove (Carried t (moveAll t ms)) ms
+carried : (t : List ℕ) (ms : List Move) → Sorted Apart ms → EachMove (FramesBelow (length t)) ms → EachMove (Carried t (moveAll t ms)) ms
 unfolding moveAll
 carried t [] apart fit = tt
 carried t (m ∷ ms) apart fit =
@@ -97,7 +97,7 @@ move-before u b (a ∷ ms) apart =
     move-before (move u a) b ms (apart .1) ∙ ap (λ (l : List ℕ). moveAll l ms) (sym (either-first u b a (apart .0)))
 
 -- and a move to a free frame, then back, changes nothing
-move-back : (t : List ℕ) (m : Move) → Within (length t) m → word t (m .target) ≡ 0 → move (move t m) (back m) ≡ t
+move-back : (t : List ℕ) (m : Move) → FramesBelow (length t) m → word t (m .target) ≡ 0 → move (move t m) (back m) ≡ t
 move-back t m fit free =
     let v : ℕ = m .source in
     let g : ℕ = m .target in
@@ -116,7 +116,7 @@ back-apart m ms h =
     each-move-map (λ a k. record { sources = k .in-out; targets = k .out-in; out-in = k .targets; in-out = k .sources }) ms h
 
 -- so moves that are apart, each to a free frame, are undone by the same moves the other way
-pub moves-back : (t : List ℕ) (ms : List Move) → Sorted Apart ms → EachMove (Within (length t)) ms → EachMove (λ m. word t (m .target) ≡ 0) ms
+pub moves-back : (t : List ℕ) (ms : List Move) → Sorted Apart ms → EachMove (FramesBelow (length t)) ms → EachMove (λ m. word t (m .target) ≡ 0) ms
     → moveAll (moveAll t ms) (backward ms) ≡ t
 unfolding moveAll backward
 moves-back t [] apart fit free = refl
@@ -137,7 +137,7 @@ unfolding framesNamed
 not-named f [] o = refl
 not-named f (m ∷ ms) o = rw (ne-eqb f (m .source) (o .0 .0), ne-eqb f (m .target) (o .0 .1)) (not-named f ms (o .1))
 
-named-once : (n : ℕ) (ms : List Move) → Sorted Apart ms → EachMove (Within n) ms → twice (framesNamed ms) ≡ false
+named-once : (n : ℕ) (ms : List Move) → Sorted Apart ms → EachMove (FramesBelow n) ms → twice (framesNamed ms) ≡ false
 unfolding framesNamed twice
 named-once n [] apart fit = refl
 named-once n (m ∷ ms) apart fit =
@@ -188,7 +188,7 @@ module _ (s : State) (d c : ℕ) (ms : List Move) (long : length (s .table) ≡ 
   abbrev after : State
   after = stateOf (withActive (s .board) d c) (moveAll (s .table) ms)
 
-  within : EachMove (Within (length (s .table))) ms
+  within : EachMove (FramesBelow (length (s .table))) ms
   within =
       rw long (each-move-map (λ m h. (h .from-frame, h .to-frame, λ e. true≢false (sym (h .inside) ∙ rw (← e) (h .outside)))) ms lead)
 

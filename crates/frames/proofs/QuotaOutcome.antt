@@ -16,8 +16,8 @@ use Rattle.frames.specs.Steps.{quotaReply}
 use Rattle.calls.proofs.CallTests.{refused}
 
 -- of the board, an outcome changes the quotas alone
-abbrev Within : State → Outcome → Type 0
-Within s o = o .next .board ≡ withQuotas (s .board) (o .next .board .quotas)
+abbrev OnlyQuotas : State → Outcome → Type 0
+OnlyQuotas s o = o .next .board ≡ withQuotas (s .board) (o .next .board .quotas)
 
 module _ (s : State) (d q : ℕ) where
   abbrev tests : List Test
@@ -46,9 +46,9 @@ module _ (s : State) (d q : ℕ) where
       let a = accepted (s .board) (length (s .table)) d (passed-answers first (tt {0}) (passed-earlier first (quotaTest s d q ∷ []) (passed e))) in
       omega (arith, a .bounds, a .caller)
 
-  pub only-quotas : Within s (setQuota s d q)
+  pub only-quotas : OnlyQuotas s (setQuota s d q)
   only-quotas = by-reply (quotaReply s d q) refl
     where
-      by-reply : (r : Reply (Unit {0})) → quotaReply s d q ≡ r → Within s (setQuota s d q)
-      by-reply (Answers tt) e = subst (Within s) (sym (quota-given e)) refl
-      by-reply (Refuses n r) e = subst (Within s) (sym (quota-refused n r e)) refl
+      by-reply : (r : Reply (Unit {0})) → quotaReply s d q ≡ r → OnlyQuotas s (setQuota s d q)
+      by-reply (Answers tt) e = subst (OnlyQuotas s) (sym (quota-given e)) refl
+      by-reply (Refuses n r) e = subst (OnlyQuotas s) (sym (quota-refused n r e)) refl
