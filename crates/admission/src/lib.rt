@@ -1,6 +1,8 @@
 // Admission of a plan: document 01, "Plans", refusals 2 to 7 and 15 to 22 in order, and to two lent lists
 // the times in row order and their rounds (document 02, No. 9). The need of a row and the search for its
 // time are in `need` and `search`.
+#![tactic(auto)]
+
 mod need;
 mod row_times;
 mod search;
@@ -19,7 +21,7 @@ use plan::check_plan;
 use refusal::Refusal;
 use rows::{TASK_WORDS, VCPU_WORDS};
 
-#[derive(Drop)]
+#[derive(Clone, Copy)]
 pub enum Admission {
     Admitted,
     Refused(Refusal),

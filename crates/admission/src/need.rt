@@ -32,7 +32,7 @@ pub(crate) fn task_need(own: u32, part: &[u32], i: u32, charges: &[u64; 32], t: 
 }
 
 // The VCPUs of a core before one of them: their number, and the period and budget of each.
-#[derive(Drop)]
+#[derive(Clone, Copy)]
 pub(crate) struct CoreRows {
     pub count: u32,
     pub periods: [u32; 16],

@@ -11,14 +11,14 @@ ghost use Rattle.admission.specs.Paper.{paper_found};
 use crate::need::{core_rows, task_need, vcpu_need};
 use rows::{TASK_DEADLINE, VCPU_BUDGET, VCPU_PERIOD, charges, cost, task_word, vcpu_word};
 
-#[derive(Drop)]
+#[derive(Clone, Copy)]
 pub enum Found {
     At(u32),
     Late,
 }
 
 // What a search found, and the rounds that it took, with the one that ended it.
-#[derive(Drop)]
+#[derive(Clone, Copy)]
 pub(crate) struct Search {
     pub found: Found,
     pub rounds: u32,

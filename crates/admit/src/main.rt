@@ -1,9 +1,11 @@
 // The program `admit`: a plan on standard input, the verdict on standard output. `main` reads, calls
 // `report::answer` and writes; without a whole input there is no verdict, and a line on standard error says so.
+#![tactic(auto)]
+
 use report::INPUT_BYTES;
 use text::TEXT_BYTES;
 
-#[derive(Drop)]
+#[derive(Clone, Copy)]
 enum Input {
     Whole(usize),
     Failed,

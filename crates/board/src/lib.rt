@@ -1,5 +1,7 @@
 // The board by value, its fields, and what a test of it says: document 01, "Board and frame table", and 02, No. 6. The
 // definitions of its refusals are here too; the code that tests for them is in `board_tests`.
+#![tactic(auto)]
+
 mod fields;
 mod quotas;
 
@@ -14,7 +16,7 @@ use refusal::Refusal;
 // N, F, the domain count, and a grant, an active set and a quota for each domain. Fields of domains at or
 // beyond the count are neither read nor changed. A caller in C lends it as its 27 words, without gaps.
 #[repr(C)]
-#[derive(Drop)]
+#[derive(Clone, Copy)]
 pub struct Board {
     pub colours: u32,
     pub frames: u32,
@@ -24,7 +26,7 @@ pub struct Board {
     pub quotas: [u32; 8],
 }
 
-#[derive(Drop)]
+#[derive(Clone, Copy)]
 pub enum Checked {
     Accepted,
     Refused(Refusal),

@@ -1,6 +1,8 @@
 // The tests of a board: refusals 2 to 8 and 26, document 01, "Board and frame table", and 02, No. 6. check_board tests
 // a board with a frame table of so many words, as admission does; check_call a call of a domain. No public function
 // requires anything of its caller.
+#![tactic(auto)]
+
 mod domains;
 
 ghost use Rattle.std.specs.Prelude.{◌≡◌};

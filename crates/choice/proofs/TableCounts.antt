@@ -1,6 +1,6 @@
 -- What the passes over the table of a call give: the words beyond the most frames and the bound on a first word play no part there. The sums by which a
 -- recolouring is judged, and that the keys of a fault are words.
-use Rattle.std.proofs.Common.{◌≡◌, ℕ, ◌<◌, ◌≤◌, Bool, true, false, not, ◌&&◌, eqb, List, length, get_or, sym, refl, ap, ◌∙◌, arith, take_all, lt-ltb, eq-eqb, ne_eqb, eqb-true}
+use Rattle.std.proofs.Common.{◌≡◌, ℕ, ◌<◌, ◌≤◌, Bool, true, false, not, ◌&&◌, eqb, List, length, get_or, sym, refl, ap, ◌∙◌, arith, take_all as take_whole, lt-ltb, eq-eqb, ne_eqb, eqb-true}
 use borrow.Author.Tests.{eqb-false}
 use Rattle.limits.specs.Limits.{most_frames, last_first}
 use Rattle.lists.specs.Range.{upto, keep, total}
@@ -31,7 +31,7 @@ same_sum p q lanes e = ap (total (λ (i : ℕ). get_or lanes i 0)) (same_kept p 
 
 module _ (t : List ℕ) (d : ℕ) (most : length t ≤ most_frames) (low : d < 8) where
   all_read : read t ≡ t
-  all_read = take_all most_frames t most
+  all_read = take_whole most_frames t most
 
   first_is : at_most last_first (word_of d 0) ≡ word_of d 0
   unfolding at_most

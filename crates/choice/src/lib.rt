@@ -2,6 +2,8 @@
 // frame; of the colours of a set with a free frame the one with the fewest held, the lowest on a tie. A fault chooses
 // once, by its lanes; a recolouring keeps the keys by which colours are chosen. No public function requires anything
 // of its caller: a number of colours that is none is taken for another, and what comes of it is determined.
+#![tactic(auto)]
+
 mod choosing;
 mod lane_sums;
 

@@ -5,7 +5,7 @@ ghost use Rattle.colours.specs.Paper.{paper_count};
 
 use refusal::Refusal;
 
-#[derive(Drop)]
+#[derive(Clone, Copy)]
 pub enum ColourCount {
     Colours(u32),
     Refused(Refusal),

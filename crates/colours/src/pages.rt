@@ -13,13 +13,13 @@ const LAST_INDEX: u32 = 0xFF_FFFF;
 
 const LAST_BLEACHED: u32 = 0xFFF_FFFF;
 
-#[derive(Drop)]
+#[derive(Clone, Copy)]
 pub enum Laid {
     Page(u32),
     Refused(Refusal),
 }
 
-#[derive(Drop)]
+#[derive(Clone, Copy)]
 pub enum Bleached {
     Index(u32),
     Refused(Refusal),

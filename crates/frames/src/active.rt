@@ -8,7 +8,7 @@ use board::{Board, Checked, active_set, quota_of};
 use board_tests::check_call;
 use refusal::Refusal;
 
-#[derive(Drop)]
+#[derive(Clone, Copy)]
 pub enum ActiveColours {
     Set(u32, u32),
     Refused(Refusal),

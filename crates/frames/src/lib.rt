@@ -2,6 +2,8 @@
 // What they mean is said in `calls`; this crate runs them on a lent table and a board by value, which set_quota alone is
 // lent. No public function here requires anything of its caller. The calls that move frames are in `moves` and
 // `taking_back`.
+#![tactic(auto)]
+
 mod active;
 mod mapping;
 mod quotas;

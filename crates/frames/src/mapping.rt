@@ -15,21 +15,21 @@ use pass::go_over;
 use refusal::Refusal;
 use table_words::{lowest_word, word_for};
 
-#[derive(Drop)]
+#[derive(Clone, Copy)]
 pub enum Looked {
     Mapped(u32),
     Unmapped,
     Refused(Refusal),
 }
 
-#[derive(Drop)]
+#[derive(Clone, Copy)]
 pub enum Faulted {
     Old(u32),
     New(u32),
     Refused(Refusal),
 }
 
-#[derive(Drop)]
+#[derive(Clone, Copy)]
 pub enum Released {
     Freed(u32),
     Refused(Refusal),

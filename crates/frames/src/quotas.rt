@@ -13,14 +13,14 @@ use pass::count_own;
 use refusal::Refusal;
 use table_words::word_for;
 
-#[derive(Drop)]
+#[derive(Clone, Copy)]
 pub enum QuotaSet {
     Quota(u32),
     Refused(Refusal),
 }
 
 // The board's quotas afterwards, and the answer.
-#[derive(Drop)]
+#[derive(Clone, Copy)]
 pub struct Asked {
     pub quotas: [u32; 8],
     pub answer: QuotaSet,

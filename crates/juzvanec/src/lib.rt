@@ -3,6 +3,8 @@
 // its refusal, 0 where it answers, and always writes the other numbers through pointers; `part` refuses
 // nothing and returns nothing. Pointers are references: none is null, that of an empty list neither, and
 // what one of them may write no other may reach.
+#![tactic(auto)]
+
 mod cache;
 mod interface;
 mod plans;

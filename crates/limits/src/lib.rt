@@ -1,5 +1,6 @@
 // The limits of the frame table: document 01, "Board and frame table". Each number is named once, here for code and
 // in specs/ for definitions. There is no function.
+#![tactic(auto)]
 
 // The most frames that a table has.
 pub const MOST_FRAMES: usize = 4096;

@@ -13,7 +13,7 @@ use moves::Moved;
 use refusal::Refusal;
 
 // The number and row of a refusal, 0 where a call answers, and two numbers of the answer, 0 on a refusal.
-#[derive(Drop)]
+#[derive(Clone, Copy)]
 pub struct ReplyNumbers {
     pub number: u32,
     pub row: u32,

@@ -2,6 +2,8 @@
 // it means is said in `calls`. It goes in three steps: `recolouring` judges the call, `ordering` finds the place of
 // each triple, and `moving` moves the words. What taking back shares with it is offered here too. No public function
 // requires anything of its caller.
+#![tactic(auto)]
+
 mod moving;
 mod ordering;
 mod recolouring;

@@ -19,13 +19,13 @@ use pass::survey;
 use refusal::Refusal;
 use table_words::word_for;
 
-#[derive(Drop)]
+#[derive(Clone, Copy)]
 pub enum Moved {
     Count(u32),
     Refused(Refusal),
 }
 
-#[derive(Drop)]
+#[derive(Clone, Copy)]
 pub struct Recoloured {
     pub board: Board,
     pub answer: Moved,

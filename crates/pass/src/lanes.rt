@@ -10,7 +10,7 @@ ghost use Rattle.pass.specs.Steps.{read, at_most, LanesFit, own_in, survey_of};
 use crate::block::is_own;
 use limits::{LAST_FIRST, MOST_FRAMES};
 
-#[derive(Drop)]
+#[derive(Clone, Copy)]
 pub struct Surveyed {
     pub held: [u16; 16],
     pub free: [u16; 16],

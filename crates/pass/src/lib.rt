@@ -2,6 +2,8 @@
 // words are taken in upwards, each once; what is kept between two words is `Tally` and the words of the block
 // under way. And the counts that a quota, a recolouring and a taking back are judged by. Words beyond 4,096 are not read, since no table has
 // them.
+#![tactic(auto)]
+
 mod block;
 mod lanes;
 

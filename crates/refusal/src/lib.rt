@@ -1,18 +1,20 @@
 // The number and row of a refusal, and what its row names: document 01, "Refusals in the order
 // tested". specs/Reply.antt has what a reply is and what it means that the first failing test
 // refuses; the other crates' definitions are written with it.
+#![tactic(auto)]
+
 ghost use Rattle.std.specs.Prelude.{◌≡◌};
 ghost use Rattle.refusal.specs.Rows.{row_names};
 
 // A refusal: its number, one of docs/REFUSALS.md, and the domain or row at fault, 0 where it names none.
-#[derive(Drop)]
+#[derive(Clone, Copy)]
 pub struct Refusal {
     pub number: u32,
     pub row: u32,
 }
 
 // What the row of a refusal counts.
-#[derive(Drop)]
+#[derive(Clone, Copy)]
 pub enum RowNames {
     Domain,
     PlanRow,

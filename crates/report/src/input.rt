@@ -10,7 +10,7 @@ use rows::{TASK_WORDS, VCPU_WORDS};
 use text::MOST_ROWS;
 
 // What the counts of an input say, whether or not it is as long as they say.
-#[derive(Drop)]
+#[derive(Clone, Copy)]
 pub(crate) struct Rows {
     pub domains: usize,
     pub vcpus: usize,

@@ -1,6 +1,8 @@
 // The program `admit` from the bytes of its input to the bytes of its output: document 01, "Examples from
 // the recorder", and refusal 1. `answer` is what the program calls, and `report` answers an input of any length;
 // `plan_extent` says how many words the plan in front of an input takes, for callers that read several in a row.
+#![tactic(auto)]
+
 mod input;
 
 ghost use Rattle.std.specs.Prelude.{◌≡◌, ℕ, ◌≤◌, false, ◌||◌, ltb, List, length, take};
@@ -20,14 +22,14 @@ pub const INPUT_BYTES: usize = 2873;
 
 const MOST_DOMAINS: usize = 8;
 
-#[derive(Drop)]
+#[derive(Clone, Copy)]
 pub enum Extent {
     Words(u32),
     Refused(Refusal),
 }
 
 // The verdict, how many words of the input the plan took, and how many bytes the text has.
-#[derive(Drop)]
+#[derive(Clone, Copy)]
 pub struct Reported {
     pub verdict: Admission,
     pub words: u32,

@@ -1,6 +1,8 @@
 // The rows of a plan as words, what an arrival of an earlier task charges, and the part of a VCPU:
 // document 01, "Plans", with document 02, No. 3. No function here requires anything of its caller: a
 // word past the end of a list reads as 0.
+#![tactic(auto)]
+
 mod arrival;
 mod own_rows;
 mod words;

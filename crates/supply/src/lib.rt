@@ -1,5 +1,7 @@
 // The least supply of a periodic resource: document 01, "Plans" (Shin and Lee 2003). The function is
 // total; its numbers mean something for a period of 1 or more and a budget of 1 up to the period.
+#![tactic(auto)]
+
 ghost use Rattle.std.specs.Prelude.{◌≡◌, ◌-◌};
 ghost use Rattle.supply.specs.Supply.{supply};
 

@@ -1,5 +1,7 @@
 // Taking a recolouring back: document 02, No. 10, with refusals 31 and 32. The list is judged first, and what is lent
 // changes where all tests have passed. No public function requires anything of its caller.
+#![tactic(auto)]
+
 mod triples;
 
 ghost use Rattle.std.specs.Prelude.{◌≡◌, true, ◌≤◌, ◌<◌, length, set as store};

@@ -9,7 +9,7 @@ use limits::{MOST_FRAMES, PAGES};
 use table_words::{in_set, is_among, word_for};
 
 // What the triples of a list come to: 31, or how many of their new frames lie outside the former set.
-#[derive(Drop)]
+#[derive(Clone, Copy)]
 pub(crate) enum Triples {
     Wrong,
     Outside(usize),

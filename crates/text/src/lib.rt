@@ -1,6 +1,8 @@
 // The lines of a verdict, written one after another over a lent text: document 01, "Examples from the
 // recorder". Each function answers the place after what it wrote. No public function requires anything of its
 // caller.
+#![tactic(auto)]
+
 ghost use Rattle.std.specs.Prelude.{◌≡◌, List, ℕ, ◌+◌, ◌*◌, ◌≤◌, min, length, take, drop};
 ghost use Rattle.std.proofs.lemmas.List.Edits.{sets};
 ghost use Rattle.lists.specs.Naming.{With};

@@ -2,6 +2,8 @@
 // is the number of cases; each case is a word with its length in bytes and then its bytes. What `admit`
 // would print for each is written, one after another.
 // All of a report: io::count cuts nothing, and spares the proof that the part is inside the text.
+#![tactic(auto)]
+
 fn write_text(text: &[u8; 1024], length: u32) {
     let bytes: &[u8] = text;
     let written = io::count(length as isize, bytes);

@@ -1,5 +1,7 @@
 // Answers the separate tool's vectors of `refusal` and `colours`. A case is five words, the operation and
 // its numbers; the first five hold the count of cases. A line is written for each case.
+#![tactic(auto)]
+
 use colours::{Bleached, ColourCount, Laid};
 use refusal::RowNames;
 use vectors_input::{next_word, number, refused, text};

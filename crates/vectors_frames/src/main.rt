@@ -1,6 +1,8 @@
 // Answers the separate tool's vectors of the frame table: scripts of the calls. The input is the
 // words that `vectors_input` reads; output.rt writes the lines of each call. Tables, boards and move
 // lists are compared by a hash.
+#![tactic(auto)]
+
 use board::Board;
 use vectors_input::next_word;
 

@@ -1,6 +1,8 @@
 // What the programs that answer vectors share: words.rt reads their input, hash.rt has the hash by which
 // they compare lists, and lines.rt writes their lines. The loop over the cases stands in each `main`, since
 // a function cannot be handed to another.
+#![tactic(auto)]
+
 mod hash;
 mod lines;
 mod words;

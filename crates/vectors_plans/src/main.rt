@@ -1,5 +1,7 @@
 // Answers the separate tool's vectors of plans: admissions, parts and supplies. The input is the words
 // that `vectors_input` reads; output.rt writes the lines of each case. Lists are compared by a hash.
+#![tactic(auto)]
+
 use board::Board;
 
 mod output;
