@@ -12,6 +12,7 @@ pub enum ColourCount {
 }
 
 // Whether a number of colours is one that is taken.
+#[tactic(auto, unfolding(crate::specs::Cache::is_colour_count))]
 pub fn is_colour_count(colours: u32) -> bool
     ensures { result ≡ is_colour_count colours }
 {

@@ -2,4 +2,3 @@
 pub mod PageCallOutcome
 pub mod QuotaOutcome
 pub mod PageSearch
-pub mod Walk

@@ -71,6 +71,7 @@ pub fn set_quota(board: &mut Board, table: &[u16], domain: u32, quota: u32) -> Q
     ensures board_after { board.new ≡ (set_quota (state_of board.old table.now) domain quota).next.board }
 {
     let asked = ask_quota(*board, table, domain, quota);
-    board.quotas = asked.quotas;
+    let quotas = asked.quotas;
+    board.quotas = quotas;
     asked.answer
 }
