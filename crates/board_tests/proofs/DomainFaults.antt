@@ -1,9 +1,9 @@
 -- Refusals 5 to 7 one after the other: the lowest domain at fault for the first of the three numbers that has one.
+use Rattle.std.specs.Prelude.{if◌then◌else◌}
 use Prim.Native.Nat.{ℕ}
 use mathlib.Core.List.{[], ◌++◌, append-nil}
 use mathlib.Core.Path.{◌≡◌}
 use lib.Dec.{ltb}
-use Rattle.lists.specs.IfThenElse.{if◌then◌else◌}
 use Rattle.lists.specs.Range.{lowest}
 use Rattle.refusal.specs.Reply.{Answers, Refuses, each, unless}
 use Rattle.refusal.proofs.Order.{unless_each}

@@ -1,8 +1,7 @@
 -- The calls, for every board, table and argument: reply, moves, board and table afterwards. Document 01, refusals 2 to 14; the order of the
 -- moves is document 02, No. 4, the quota with refusals 26 to 28 its No. 6. Taking back has a file of its own (TakeBack).
-use Rattle.std.specs.Prelude.{ℕ, ◌*◌, Bool, ◌&&◌, ◌||◌, List, [], ◌∷◌, ◌++◌, eqb, ltb, leb, length, drop, set}
+use Rattle.std.specs.Prelude.{ℕ, ◌*◌, Bool, ◌&&◌, ◌||◌, List, [], ◌∷◌, ◌++◌, eqb, ltb, leb, length, drop, set, if◌then◌else◌}
 use Rattle.limits.specs.Limits.{last_page}
-use Rattle.lists.specs.IfThenElse.{if◌then◌else◌}
 use Rattle.lists.specs.Range.{head_or, is_empty}
 use Rattle.refusal.specs.Reply.{Reply, Answers, Refuses, Test, test, unless}
 use Rattle.board.specs.declared.Board.{Board}

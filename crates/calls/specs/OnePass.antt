@@ -1,7 +1,6 @@
 -- A fault by what it keeps while it takes in the words of the table (`tally`): document 02, Nos. 2, 6 and 7. The numbers kept after any first part of the
 -- table, with the words still to come, give its answer and the frame that gets the word.
-use Rattle.std.specs.Prelude.{ℕ, ◌-◌, Bool, true, ◌&&◌, ◌||◌, List, ◌∷◌, eqb, ltb, leb, set}
-use Rattle.lists.specs.IfThenElse.{if◌then◌else◌}
+use Rattle.std.specs.Prelude.{ℕ, ◌-◌, Bool, true, ◌&&◌, ◌||◌, List, ◌∷◌, eqb, ltb, leb, set, if◌then◌else◌}
 use Rattle.lists.specs.Range.{fewest}
 use Rattle.refusal.specs.Reply.{Reply, Answers, Refuses}
 use Rattle.colours.specs.Cache.{colour_of}

@@ -1,7 +1,6 @@
 -- The keys by which the code chooses a colour: document 02, No. 7. What each function gives is determined for every input; that the least key is that of the
 -- colour with the fewest frames held is a law, where the keys fit into 16 bits.
-use Rattle.std.specs.Prelude.{◌≡◌, ℕ, ◌+◌, ◌*◌, ◌%◌, ◌<◌, ◌≤◌, true, ◌&&◌, ltb, List, length, nat_lt, slice_index}
-use Rattle.lists.specs.IfThenElse.{if◌then◌else◌}
+use Rattle.std.specs.Prelude.{◌≡◌, ℕ, ◌+◌, ◌*◌, ◌%◌, ◌<◌, ◌≤◌, true, ◌&&◌, ltb, List, length, nat_lt, slice_index, if◌then◌else◌}
 use Rattle.lists.specs.Range.{lowest}
 use Rattle.colours.specs.Sets.{has}
 use Rattle.calls.specs.Table.{has_word}

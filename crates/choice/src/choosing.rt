@@ -1,7 +1,6 @@
 // The colour whose turn it is, by keys: a colour of a set with a free frame has as its key sixteen times the frames
 // held and its number, so that the fewest held, and of these the lowest colour, is the least.
-ghost use Rattle.std.specs.Prelude.{◌≡◌, ◌+◌, ◌%◌, ◌<◌, ◌≤◌, nat_lt};
-ghost use Rattle.lists.specs.IfThenElse.{if◌then◌else◌};
+ghost use Rattle.std.specs.Prelude.{◌≡◌, ◌+◌, ◌%◌, ◌<◌, ◌≤◌, nat_lt, if◌then◌else◌};
 ghost use Rattle.colours.specs.Sets.{has};
 ghost use Rattle.calls.specs.OnePass.{held_by, free_by};
 ghost use Rattle.choice.specs.Keys.{as_count, full_key, key_of, FreesBy, KeysBy, LeastKey, ByLeastKey};

@@ -1,5 +1,6 @@
 -- The times of a plan's rows, from those of the parts of its VCPUs: in a plan that passes, a row's part has all rows of its VCPU up to it, with their own words,
 -- so that need and deadline are those of the row; and the lists that admission leaves have the times at their places.
+use Rattle.std.specs.Prelude.{if◌then◌else◌}
 use Prim.Native.Nat.{ℕ, zero, suc, ◌+◌, ◌-◌, ◌<◌, ◌≤◌}
 use native.Mathlib.Nat.{mul-zero, add-zero, zero-add, lt_irrefl}
 use native.Mathlib.Omega.{arith}
@@ -10,7 +11,6 @@ use lib.Dec.{eqb, ltb}
 use lib.ListN.{length, get_or, drop, get_or-append}
 use lib.Seq.{get_or-append-add}
 use borrow.Author.Tests.{eq-eqb, ltb-true}
-use Rattle.lists.specs.IfThenElse.{if◌then◌else◌}
 use Rattle.lists.proofs.CaseSplits.{cases}
 use Rattle.lists.proofs.Searches.{found}
 use Rattle.lists.proofs.WrittenLists.{table_entry}

@@ -1,7 +1,6 @@
 -- The times of a plan's rows in the words of its lists: document 01, "Plans", with document 02, No. 3. The claims on times speak of a part, the rows of one VCPU;
 -- here they are about row j of the caller's list, with its own deadline and with all earlier rows of its VCPU, and about the word that admission reports.
-use Rattle.std.specs.Prelude.{ℕ, ◌+◌, ◌<◌, ◌≤◌, List, ◌≡◌, eqb, get_or}
-use Rattle.lists.specs.IfThenElse.{if◌then◌else◌}
+use Rattle.std.specs.Prelude.{ℕ, ◌+◌, ◌<◌, ◌≤◌, List, ◌≡◌, eqb, get_or, if◌then◌else◌}
 use Rattle.refusal.specs.Reply.{Answers, Refuses}
 use Rattle.supply.specs.Supply.{supply}
 use Rattle.board.specs.declared.Board.{Board}

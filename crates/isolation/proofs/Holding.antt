@@ -1,4 +1,5 @@
 -- How many frames a domain holds, after a word of the table is written and after moves to free frames. It knows no call.
+use Rattle.std.specs.Prelude.{if◌then◌else◌}
 use Prim.Native.Nat.{ℕ, ◌+◌, ◌<◌, zero-le}
 use native.Mathlib.Omega.{arith}
 use mathlib.Core.Bool.{Bool}
@@ -8,7 +9,6 @@ use lib.Dec.{eqb}
 use lib.ListN.{length, set, length-set}
 use lib.Seq.{get_or-set_same, get_or-set_other}
 use borrow.Author.Tests.{eqb-true, eqb-false}
-use Rattle.lists.specs.IfThenElse.{if◌then◌else◌}
 use Rattle.lists.specs.Range.{upto, keep}
 use Rattle.lists.proofs.CaseSplits.{cases}
 use Rattle.lists.proofs.FilteredRange.{same_kept}

@@ -1,11 +1,11 @@
 -- Unwinding, over any machine with calls: where a relation of two states is kept by an own call on both sides, with the same told, and by
 -- another's call on the left side alone, histories look the same to the domain exactly when its own calls, replayed alone, show the same
 -- to some own calls that probe the state. It knows no frame call.
+use Rattle.std.specs.Prelude.{if◌then◌else◌}
 use mathlib.Core.Bool.{Bool, true, false}
 use mathlib.Core.List.{List, [], ◌∷◌}
 use mathlib.Core.Logic.{◌↔◌}
 use mathlib.Core.Path.{◌≡◌, refl, sym, ◌∙◌}
-use Rattle.lists.specs.IfThenElse.{if◌then◌else◌}
 use Rattle.lists.proofs.CaseSplits.{cases}
 
 -- the state after a list of calls, its own calls, and what they are told

@@ -1,7 +1,6 @@
 -- Frames accounted for: document 02, No. 14. Service staff compare the frames that a domain holds with its log of calls. Four facts tie the two, after any history
 -- from an accepted board and an empty table; and the count needs the log alone, which is what the domain's own calls were answered: no board, no table, no call.
-use Rattle.std.specs.Prelude.{ℕ, suc, ◌+◌, ◌-◌, ◌<◌, ◌≤◌, Bool, ◌&&◌, List, [], ◌∷◌, ◌↔◌, ◌≡◌}
-use Rattle.lists.specs.IfThenElse.{if◌then◌else◌}
+use Rattle.std.specs.Prelude.{ℕ, suc, ◌+◌, ◌-◌, ◌<◌, ◌≤◌, Bool, ◌&&◌, List, [], ◌∷◌, ◌↔◌, ◌≡◌, if◌then◌else◌}
 use Rattle.refusal.specs.Reply.{Reply, Answers}
 use Rattle.board.specs.Tests.{active_set}
 use Rattle.calls.specs.Table.{State, word, word_of, frames_held, frees}

@@ -1,7 +1,6 @@
 -- The domain rule, demand 3 of document 01, with its words: two histories look the same to a domain exactly when its own calls,
 -- replayed alone, leave the same active colours, the same quota (document 02, No. 6) and the same map from pages to frames.
-use Rattle.std.specs.Prelude.{ℕ, ◌<◌, ◌≤◌, true, List, [], ◌∷◌, ◌⊎◌, ◌↔◌, ◌≡◌, eqb, length}
-use Rattle.lists.specs.IfThenElse.{if◌then◌else◌}
+use Rattle.std.specs.Prelude.{ℕ, ◌<◌, ◌≤◌, true, List, [], ◌∷◌, ◌⊎◌, ◌↔◌, ◌≡◌, eqb, length, if◌then◌else◌}
 use Rattle.refusal.specs.Reply.{Reply, passes}
 use Rattle.board.specs.Tests.{board_tests}
 use Rattle.calls.specs.Table.{State, word}

@@ -1,5 +1,6 @@
 -- Loops over a range: one that looks for the lowest number that passes a test, one that asks whether any does, and one that counts those that do. What
 -- each has still to find is settled by the numbers from the one it has come to.
+use Rattle.std.specs.Prelude.{if◌then◌else◌}
 use Prim.Native.Nat.{ℕ, zero, suc, ◌+◌, ◌-◌, ◌<◌, ◌≤◌}
 use native.Mathlib.Nat.{le_refl, sub-zero}
 use native.Mathlib.Numerals.{add-one}
@@ -7,7 +8,6 @@ use native.Mathlib.Omega.{arith}
 use mathlib.Core.Bool.{Bool, true, false, ◌||◌}
 use mathlib.Core.Path.{◌≡◌, refl, sym, ap, ◌∙◌}
 use lib.ListN.{length}
-use Rattle.lists.specs.IfThenElse.{if◌then◌else◌}
 use Rattle.lists.specs.Range.{from, upto, keep, any_of, lowest_from}
 use Rattle.lists.proofs.CaseSplits.{cases}
 use Rattle.lists.proofs.PassingNumbers.{ahead, ahead_start, ahead_take, ahead_skip, ahead_end}

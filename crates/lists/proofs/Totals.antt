@@ -1,5 +1,6 @@
 -- Sums over the numbers of a range that pass a test: two that agree on the range are equal, and one that differs at a single number by so much differs by as
 -- much where that number passes.
+use Rattle.std.specs.Prelude.{if◌then◌else◌}
 use Prim.Native.Nat.{ℕ, zero, suc, ◌+◌, ◌<◌, ◌≤◌}
 use native.Mathlib.Nat.{le_refl, lt_irrefl, eq-or-lt_of_le}
 use native.Mathlib.Omega.{arith}
@@ -8,7 +9,6 @@ use mathlib.Core.Logic.{⊎_elim}
 use mathlib.Core.Path.{◌≡◌, refl}
 use lib.Dec.{eqb}
 use borrow.Author.Tests.{eqb-true, eqb-false}
-use Rattle.lists.specs.IfThenElse.{if◌then◌else◌}
 use Rattle.lists.specs.Range.{from, keep, total}
 use Rattle.lists.proofs.CaseSplits.{cases}
 

@@ -1,4 +1,3 @@
--- The definitions of `lists`: a choice by a test, the numbers of a range that pass one, and a value named once.
-pub mod IfThenElse
+-- The definitions of `lists`: the numbers of a range that pass a test, and a value named once.
 pub mod Range
 pub mod Naming

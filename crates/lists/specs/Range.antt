@@ -1,6 +1,5 @@
 -- The numbers of a range that pass a test: "lowest", "next" and "ascending" of document 01 are the head, the tail and the order of such a list.
-use Rattle.std.specs.Prelude.{ℕ, zero, suc, ◌+◌, ◌-◌, Bool, true, false, not, ◌&&◌, ◌||◌, List, [], ◌∷◌, eqb, ltb, get_or}
-use Rattle.lists.specs.IfThenElse.{if◌then◌else◌}
+use Rattle.std.specs.Prelude.{ℕ, zero, suc, ◌+◌, ◌-◌, Bool, true, false, not, ◌&&◌, ◌||◌, List, [], ◌∷◌, eqb, ltb, get_or, if◌then◌else◌}
 
 -- n numbers from i on: i, i + 1, ..
 unfoldable pub from : ℕ → ℕ → List ℕ

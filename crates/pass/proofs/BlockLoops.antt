@@ -1,4 +1,5 @@
 -- The loops over the words of a block of at most sixteen frames, which starts at a multiple of sixteen: lane and place in the block are one number there.
+use Rattle.std.specs.Prelude.{if◌then◌else◌}
 use Prim.Native.Nat.{ℕ, ◌+◌, ◌-◌, ◌%◌, ◌<◌, ◌≤◌}
 use native.Mathlib.Nat.{mod-eq_of_lt}
 use native.Mathlib.Omega.{arith}
@@ -9,7 +10,6 @@ use lib.Dec.{eqb}
 use lib.ListN.{length, get_or, take, drop, set}
 use lib.Seq.{length-take-le, drop-cons, take-add, take_all}
 use Rattle.limits.specs.Limits.{most_frames}
-use Rattle.lists.specs.IfThenElse.{if◌then◌else◌}
 use Rattle.tally.specs.Tally.{LanesAtMost, count_in, count_all, note_in, note_all}
 use Rattle.tally.proofs.ClosedForm.{count_append, count_length, count_within, note_append, note_length, noted, not_noted}
 use Rattle.pass.specs.Steps.{LanesFit}

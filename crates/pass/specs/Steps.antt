@@ -1,8 +1,7 @@
 -- What the code works out on its way: how much of a table it reads, which word of a block matters, and what it knows at the start of one; and the
 -- counts of a table for a quota and for a recolouring.
-use Rattle.std.specs.Prelude.{ℕ, ◌+◌, ◌%◌, ◌≤◌, Bool, ◌&&◌, ◌||◌, List, ◌≡◌, eqb, ltb, length, get_or, take}
+use Rattle.std.specs.Prelude.{ℕ, ◌+◌, ◌%◌, ◌≤◌, Bool, ◌&&◌, ◌||◌, List, ◌≡◌, eqb, ltb, length, get_or, take, if◌then◌else◌}
 use Rattle.limits.specs.Limits.{most_frames}
-use Rattle.lists.specs.IfThenElse.{if◌then◌else◌}
 use Rattle.lists.specs.Range.{upto, keep}
 use Rattle.tally.specs.Tally.{is_own, zeros, LanesAtMost, count_all}
 use Rattle.pass.specs.declared.lanes.Surveyed.{Surveyed}

@@ -1,9 +1,8 @@
 // A block of at most sixteen frames. Its words are read into an array, those of the domain are counted, and
 // whether one of them matters is found on the way, all lanes alike, so that the compiler compares them at once.
 // Only where one does is the array looked through, and not the table again.
-ghost use Rattle.std.specs.Prelude.{◌≡◌, ◌++◌, ℕ, ◌+◌, ◌≤◌, eqb, length, get_or, take, drop};
+ghost use Rattle.std.specs.Prelude.{◌≡◌, ◌++◌, ℕ, ◌+◌, ◌≤◌, eqb, length, get_or, take, drop, if◌then◌else◌};
 ghost use Rattle.limits.specs.Limits.{last_first};
-ghost use Rattle.lists.specs.IfThenElse.{if◌then◌else◌};
 ghost use Rattle.lists.specs.Range.{upto, any_of, lowest};
 ghost use Rattle.tally.specs.Tally.{is_own, LanesAtMost, count_all, note_all, take_all, so_far, found as found_at};
 ghost use Rattle.pass.specs.Steps.{matters, AtBlock, LanesFit};

@@ -1,8 +1,7 @@
 // Counts of the whole table: the frames that the domain holds, by which a quota is judged; and by lane, that is by a
 // frame's number modulo sixteen, these frames, by which a taking back is judged, and with them the free ones, by which a
 // recolouring is.
-ghost use Rattle.std.specs.Prelude.{◌≡◌, ◌≤◌, eqb, length};
-ghost use Rattle.lists.specs.IfThenElse.{if◌then◌else◌};
+ghost use Rattle.std.specs.Prelude.{◌≡◌, ◌≤◌, eqb, length, if◌then◌else◌};
 ghost use Rattle.tally.specs.Tally.{is_own, zeros, count_all};
 ghost use Rattle.limits.specs.Limits.{most_frames, last_first};
 ghost use Rattle.pass.specs.Steps.{read, at_most, LanesFit, own_in, survey_of};

@@ -1,4 +1,5 @@
 -- The order of tests: what the tests before decide is decided, and of one test for each domain or row the lowest at fault refuses.
+use Rattle.std.specs.Prelude.{if◌then◌else◌}
 use Prim.Native.Nat.{ℕ, zero, suc, ◌+◌, ◌<◌, ◌≤◌}
 use native.Mathlib.Nat.{le_refl, zero-add, sub-zero, lt_irrefl}
 use native.Mathlib.Omega.{arith}
@@ -7,7 +8,6 @@ use mathlib.Core.List.{List, [], ◌∷◌, ◌++◌, map, append-nil}
 use mathlib.Core.Path.{◌≡◌, refl, sym, ap, ◌∙◌}
 use lib.Dec.{ltb}
 use borrow.Author.Tests.{lt-ltb, le-ltb}
-use Rattle.lists.specs.IfThenElse.{if◌then◌else◌}
 use Rattle.lists.specs.Range.{from, keep, head_or, lowest, lowest_from}
 use Rattle.lists.proofs.CaseSplits.{cases}
 use Rattle.lists.proofs.Searches.{from_on}

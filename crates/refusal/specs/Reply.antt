@@ -1,7 +1,6 @@
 -- Replies and refusals: document 01, "Refusals in the order tested". A call has a list of tests in that order. The first test that
 -- fails refuses with its number and row; where none fails the answer stands.
-use Rattle.std.specs.Prelude.{ℕ, Bool, true, not, ◌&&◌, List, [], ◌∷◌, map}
-use Rattle.lists.specs.IfThenElse.{if◌then◌else◌}
+use Rattle.std.specs.Prelude.{ℕ, Bool, true, not, ◌&&◌, List, [], ◌∷◌, map, if◌then◌else◌}
 use Rattle.lists.specs.Range.{upto}
 
 -- what a call gives back: its answer, or the number and row of a refusal

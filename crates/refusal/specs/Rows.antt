@@ -1,6 +1,5 @@
 -- What the row of a refusal names: document 01, "The row is the lowest domain or row at fault for 5 to 7 and 17 to 22, else 0".
-use Rattle.std.specs.Prelude.{ℕ, Bool, ◌&&◌, leb}
-use Rattle.lists.specs.IfThenElse.{if◌then◌else◌}
+use Rattle.std.specs.Prelude.{ℕ, Bool, ◌&&◌, leb, if◌then◌else◌}
 use Rattle.refusal.specs.declared.RowNames.{RowNames}
 use Rattle.refusal.specs.declared.RowNames.TheVariants.{Domain, PlanRow, Nothing}
 

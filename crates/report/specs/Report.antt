@@ -1,6 +1,5 @@
 -- What `admit` answers to an input: document 01, refusal 1 before all others, then admission, the grants as active sets; and what it prints.
-use Rattle.std.specs.Prelude.{ℕ, ◌*◌, Bool, not, ◌||◌, List, [], ◌∷◌, ltb, eqb, length}
-use Rattle.lists.specs.IfThenElse.{if◌then◌else◌}
+use Rattle.std.specs.Prelude.{ℕ, ◌*◌, Bool, not, ◌||◌, List, [], ◌∷◌, ltb, eqb, length, if◌then◌else◌}
 use Rattle.refusal.specs.Reply.{Reply, Answers, Refuses, test, unless}
 use Rattle.admission.specs.Admission.{admission_reply, vcpu_times, task_times}
 use Rattle.report.specs.Input.{plan_words, over_limit, board_in, reload_in, vcpus_in, tasks_in}

@@ -1,9 +1,8 @@
 -- What an arrival of an earlier task charges a task: its cost and the reload of colours. Document 02, No. 3, which is equation (3) of document
 -- 000: of the colours that the arriving task holds, those that the task in question or a task ranked between the two holds, each once.
-use Rattle.std.specs.Prelude.{ℕ, zero, suc, ◌+◌, ◌-◌, ◌*◌, List, map, ltb}
+use Rattle.std.specs.Prelude.{ℕ, zero, suc, ◌+◌, ◌-◌, ◌*◌, List, map, ltb, if◌then◌else◌}
 use Rattle.std.specs.Int.Bits.{bit_and, bit_or}
 use Rattle.std.specs.Int.Count.{ones}
-use Rattle.lists.specs.IfThenElse.{if◌then◌else◌}
 use Rattle.lists.specs.Range.{upto}
 use Rattle.rows.specs.RowWords.{colour_set, cost}
 

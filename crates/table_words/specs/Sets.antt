@@ -1,7 +1,6 @@
 -- Colour sets as the code tests them: the colour of a frame by a mask, and by lane how many words of a domain are those of strays.
-use Rattle.std.specs.Prelude.{◌≡◌, ℕ, ◌+◌, ◌-◌, ◌%◌, ◌<◌, Bool, List, length, bit_and, slice_index}
+use Rattle.std.specs.Prelude.{◌≡◌, ℕ, ◌+◌, ◌-◌, ◌%◌, ◌<◌, Bool, List, length, bit_and, slice_index, if◌then◌else◌}
 use Rattle.limits.specs.Limits.{pages}
-use Rattle.lists.specs.IfThenElse.{if◌then◌else◌}
 use Rattle.lists.specs.Range.{lowest_from}
 use Rattle.colours.specs.Sets.{has}
 use Rattle.table_words.specs.Words.{among}

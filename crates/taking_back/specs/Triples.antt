@@ -1,7 +1,6 @@
 -- What the code of a taking back goes by: document 02, No. 10. A triple and a list as 31 judges them, on a table whose length is F; the marks of the frames
 -- named; and how many new frames lie outside the former set, by which 32 is judged.
-use Rattle.std.specs.Prelude.{ℕ, ◌+◌, ◌%◌, Bool, true, false, not, ◌||◌, List, [], ◌∷◌, ◌≡◌, eqb, leb, length, get_or, set}
-use Rattle.lists.specs.IfThenElse.{if◌then◌else◌}
+use Rattle.std.specs.Prelude.{ℕ, ◌+◌, ◌%◌, Bool, true, false, not, ◌||◌, List, [], ◌∷◌, ◌≡◌, eqb, leb, length, get_or, set, if◌then◌else◌}
 use Rattle.lists.specs.Range.{upto, keep, is_empty}
 use Rattle.refusal.specs.Reply.{Reply, test, unless}
 use Rattle.calls.specs.Table.{in_set, is_stray}

@@ -1,5 +1,6 @@
 -- What is kept after words that are taken in, said at once: the lowest of them that is the page's word settles it, and else the lanes have counted and
 -- noted all of them. And the laws of the lanes, which go on from one list of words to the next.
+use Rattle.std.specs.Prelude.{if◌then◌else◌}
 use Prim.Native.Nat.{ℕ, zero, suc, ◌+◌, ◌%◌, ◌<◌, ◌≤◌}
 use native.Mathlib.Nat.{le_refl, lt_irrefl, add-zero}
 use native.Mathlib.Numerals.{add-one}
@@ -11,7 +12,6 @@ use lib.Dec.{eqb}
 use lib.ListN.{length, get_or, set, drop, length-set, drop_of_length-le, replicate}
 use lib.Seq.{drop-cons, set_out, get_or-set_same, get_or-set_other}
 use borrow.Author.Tests.{lt-ltb, eqb-true, eqb-false, eq-eqb, ne_eqb}
-use Rattle.lists.specs.IfThenElse.{if◌then◌else◌}
 use Rattle.lists.specs.Range.{lowest, lowest_from}
 use Rattle.lists.proofs.CaseSplits.{cases, below_or_not, and_both}
 use Rattle.lists.proofs.RangeLoops.{sought_hit, sought_miss, sought_end}

@@ -1,4 +1,5 @@
 -- The lanes of a whole table: what they have counted is how many frames there are, and the lowest frame that they have noted is the lowest free one.
+use Rattle.std.specs.Prelude.{if◌then◌else◌}
 use Prim.Native.Nat.{ℕ, zero, suc, ◌+◌, ◌%◌, ◌<◌, ◌≤◌, zero-le}
 use native.Mathlib.Nat.{lt_irrefl, eq-or-lt_of_le, mod-lt, zero-add}
 use native.Mathlib.Numerals.{add-one}
@@ -11,7 +12,6 @@ use lib.Dec.{eqb}
 use lib.ListN.{length, get_or, set, drop, length-set, drop_of_length-le}
 use lib.Seq.{get_or-set_same, get_or-set_other}
 use borrow.Author.Tests.{eqb-true, eqb-false, eq-eqb, ne_eqb}
-use Rattle.lists.specs.IfThenElse.{if◌then◌else◌}
 use Rattle.lists.specs.Range.{upto, keep, lowest, total}
 use Rattle.lists.proofs.CaseSplits.{cases, below_or_not, and_both}
 use Rattle.lists.proofs.PassingNumbers.{ahead, ahead_start, ahead_take, ahead_skip, ahead_end}

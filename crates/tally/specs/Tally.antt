@@ -1,9 +1,8 @@
 -- What a fault keeps while it takes in the words of the frame table, one after another: document 02, Nos. 2 and 7. `Tally` is the struct of the code: the
 -- page's word and the domain's first, sixteen lanes of counts and of free frames, the number of words taken in, and the frame with the page's word. A
 -- frame that is known stands there as 1 and its number, and 0 says that none is. What of it answers a fault is said in `calls`.
-use Rattle.std.specs.Prelude.{ℕ, ◌+◌, ◌%◌, ◌≤◌, Bool, ◌&&◌, List, [], ◌∷◌, ◌++◌, eqb, ltb, leb, get_or, set, replicate}
+use Rattle.std.specs.Prelude.{ℕ, ◌+◌, ◌%◌, ◌≤◌, Bool, ◌&&◌, List, [], ◌∷◌, ◌++◌, eqb, ltb, leb, get_or, set, replicate, if◌then◌else◌}
 use Rattle.limits.specs.Limits.{last_page}
-use Rattle.lists.specs.IfThenElse.{if◌then◌else◌}
 use Rattle.tally.specs.declared.Tally.{Tally}
 
 -- one of the 4,096 words of the domain with this first word

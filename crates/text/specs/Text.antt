@@ -1,6 +1,5 @@
 -- The lines that `admit` prints, in ASCII: `vcpu ROW TIME` and `task ROW TIME` for each row and then `admitted`, or `refused NUMBER ROW` alone.
-use Rattle.std.specs.Prelude.{ℕ, zero, suc, ◌+◌, ◌/◌, ◌%◌, min, List, [], ◌∷◌, ◌++◌, ltb, length, take, drop}
-use Rattle.lists.specs.IfThenElse.{if◌then◌else◌}
+use Rattle.std.specs.Prelude.{ℕ, zero, suc, ◌+◌, ◌/◌, ◌%◌, min, List, [], ◌∷◌, ◌++◌, ltb, length, take, drop, if◌then◌else◌}
 
 -- the digits of n, with room for so many
 unfoldable pub digits : ℕ → ℕ → List ℕ

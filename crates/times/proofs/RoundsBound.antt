@@ -1,11 +1,11 @@
 -- The bound on rounds: document 02, No. 9. Each round but the first two starts where more arrivals of earlier rows are seen than at the round
 -- before, and none starts past the deadline, so that they are at most 2 and the arrivals between 1 and the deadline.
+use Rattle.std.specs.Prelude.{if◌then◌else◌}
 use Prim.Native.Nat.{ℕ, zero, suc, ◌+◌, ◌-◌, ◌<◌, ◌≤◌}
 use native.Mathlib.Nat.{le_refl, lt_irrefl, le_trans, add-le-add, div_self, mul-zero}
 use native.Mathlib.Omega.{arith}
 use mathlib.Core.Bool.{Bool, false}
 use mathlib.Core.Path.{◌≡◌, refl, ap, ◌∙◌}
-use Rattle.lists.specs.IfThenElse.{if◌then◌else◌}
 use Rattle.lists.proofs.CaseSplits.{cases, below_or_not}
 use Rattle.times.specs.Times.{arrivals, need}
 use Rattle.times.specs.Rounds.{rounds_from, rounds, rounds_bound}

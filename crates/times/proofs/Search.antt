@@ -1,5 +1,6 @@
 -- The search for a time by rounds, over any need that never falls and any supply with a first time for each amount: from t on to the first
 -- time whose supply covers the need in t. It passes over no time that would do, so what it stops at is the first, and none is missed.
+use Rattle.std.specs.Prelude.{if◌then◌else◌}
 use Prim.Native.Nat.{ℕ, zero, suc, ◌+◌, ◌<◌, ◌≤◌}
 use native.Mathlib.Nat.{le_refl, lt_irrefl, le_trans}
 use native.Mathlib.Numerals.{add-one}
@@ -8,7 +9,6 @@ use mathlib.Core.Bool.{Bool, true, false}
 use mathlib.Core.Path.{◌≡◌, sym, ◌∙◌}
 use lib.Dec.{leb, ltb}
 use borrow.Author.Tests.{le-leb, lt-leb, lt-ltb, le-ltb, ltb-true, ltb-false}
-use Rattle.lists.specs.IfThenElse.{if◌then◌else◌}
 use Rattle.lists.specs.Range.{lowest_from}
 use Rattle.lists.proofs.CaseSplits.{cases, below_or_not}
 use Rattle.lists.proofs.RangeLoops.{sought_hit, sought_miss, sought_end}

@@ -1,6 +1,5 @@
 -- The first microsecond from 1 to a bound that passes a test, or none: document 01, "Task time" and "VCPU time".
-use Rattle.std.specs.Prelude.{ℕ, zero, suc, ◌≤◌, Bool}
-use Rattle.lists.specs.IfThenElse.{if◌then◌else◌}
+use Rattle.std.specs.Prelude.{ℕ, zero, suc, ◌≤◌, Bool, if◌then◌else◌}
 
 pub data Time : Type 0 where
   At : ℕ → Time

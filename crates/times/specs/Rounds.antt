@@ -1,8 +1,7 @@
 -- The rounds of the search for a time: document 02, No. 9. A round starts at t, 1 at first, works out the need in t, and takes the first
 -- microsecond whose supply covers it; the search ends when this equals t or exceeds the deadline. They are counted over any need and any supply,
 -- with two uses: a task, and a VCPU, whose supply in t is t and whose deadline is its period.
-use Rattle.std.specs.Prelude.{ℕ, zero, suc, ◌+◌, ◌-◌, Bool, ◌||◌, List, eqb, leb, ltb}
-use Rattle.lists.specs.IfThenElse.{if◌then◌else◌}
+use Rattle.std.specs.Prelude.{ℕ, zero, suc, ◌+◌, ◌-◌, Bool, ◌||◌, List, eqb, leb, ltb, if◌then◌else◌}
 use Rattle.supply.specs.Supply.{supply}
 use Rattle.rows.specs.RowWords.{core, vcpu_period, budget, vcpu_of, task_period, deadline}
 use Rattle.rows.specs.Part.{part_start, part_of}

@@ -1,6 +1,5 @@
 -- Need, task time and VCPU time: document 01, "Plans", with document 02, No. 3. A task's rows are those of its VCPU's part, a VCPU's those of the whole list.
-use Rattle.std.specs.Prelude.{ℕ, zero, suc, ◌+◌, ◌-◌, ◌*◌, ◌/◌, List, eqb, leb}
-use Rattle.lists.specs.IfThenElse.{if◌then◌else◌}
+use Rattle.std.specs.Prelude.{ℕ, zero, suc, ◌+◌, ◌-◌, ◌*◌, ◌/◌, List, eqb, leb, if◌then◌else◌}
 use Rattle.supply.specs.Supply.{supply}
 use Rattle.rows.specs.RowWords.{core, vcpu_period, budget, vcpu_of, task_period, deadline, cost}
 use Rattle.rows.specs.Reload.{arrival_charge}

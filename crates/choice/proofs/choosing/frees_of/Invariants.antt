@@ -1,6 +1,5 @@
 -- `choice::choosing::frees_of` meets its contract. The invariant: the colours passed have their frame.
-use Rattle.std.proofs.Common.{ℕ, ◌-◌, ◌≤◌}
-use Rattle.lists.specs.IfThenElse.{if◌then◌else◌}
+use Rattle.std.proofs.Common.{ℕ, ◌-◌, ◌≤◌, if◌then◌else◌}
 use Rattle.lists.proofs.FilledArrays.{Filled}
 use Rattle.colours.specs.Sets.{has}
 use Rattle.calls.specs.OnePass.{free_by}

@@ -1,0 +1,27 @@
+-- `juzvanec::table::juzvanec_take_back` meets its contract: the call's reply, over the board that the words stand for, is told.
+use mathlib.Core.Path.{ap, ◌∙◌}
+use Rattle.refusal.specs.Reply.{Reply}
+use Rattle.board.specs.declared.Board.{Board}
+use Rattle.calls.specs.Table.{state_of}
+use Rattle.calls.specs.Calls.{Answer, Outcome, with_active}
+use Rattle.calls.specs.TakeBack.{take_back}
+use Rattle.marshal.specs.BoardWords.{board_of, words_after}
+use Rattle.marshal.specs.Replies.{number_in, second_in}
+use Rattle.marshal.proofs.BoardRoundTrip.{words_left_again}
+use Rattle.marshal.proofs.Tellings.{told_same}
+use Rattle.juzvanec.proofs.table.juzvanec_take_back.Goals as goal
+
+pub returns : goal.returns
+returns c =
+    let a = c.args in
+    let on : Board → Outcome = λ b. take_back (state_of b a.table.now) a.domain a.set a.moves.now in
+    let same = ap on c.board_of.ensures in
+    let done = c.take_back-done.ensures in
+    let reply = done.answer_value ∙ ap (λ (o : Outcome). o.reply) same in
+    let table = done.table_after ∙ ap (λ (o : Outcome). o.next.table) same in
+    let words =
+    c.write_recoloured.ensures
+    ∙ ap (λ (p : Reply Answer). words_after p (with_active (board_of a.board.now) a.domain a.set) a.board.now) reply
+    ∙ words_left_again a.board.now a.table.now a.moves.now a.domain a.set in
+    let t = told_same number_in second_in c.moved-told.ensures reply in
+    record { holds = (t.number, t.value, t.row, words, table) }
