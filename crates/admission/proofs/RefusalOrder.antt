@@ -1,9 +1,9 @@
 -- The order of refusals in admission: the board's, then the plan's, then late VCPUs, then late tasks.
+use Rattle.std.specs.Prelude.{if◌then◌else◌}
 use Prim.Native.Nat.{ℕ}
 use mathlib.Core.List.{List, [], append-nil}
 use mathlib.Core.Path.{◌≡◌, ◌∙◌}
 use lib.Dec.{ltb}
-use Rattle.lists.specs.IfThenElse.{if◌then◌else◌}
 use Rattle.lists.specs.Range.{lowest}
 use Rattle.refusal.specs.Reply.{Answers, Refuses, each, unless}
 use Rattle.refusal.proofs.Order.{unless_refused, unless_passed, unless_each}
