@@ -10,10 +10,10 @@ pub loop-d-preserved : goal.loop-d-preserved
 loop-d-preserved c =
     let b = c.args.board in
     let h = c.loop-d in
-    let inside : active_set b h.d - bit_and (active_set b h.d) (grant b h.d) ≡ 0 = c.if-set-grant-ne0.false in
+    let inside : active_set b h.d - bit_and (active_set b h.d) (grant b h.d) ≡ 0 = omega arith in
     let whole : bit_and (active_set b h.d) (grant b h.d) ≡ active_set b h.d = omega (arith, inside, and_le_l (active_set b h.d) (grant b h.d)) in
     let set : empty_or_outside (grant b h.d) (active_set b h.d) ≡ false = simp (ne_eqb _ _ c.if-set-eq0.false, eq-eqb _ _ whole) in
-    (omega arith, passed_next b h.d h.seen h.invariant.1 set c.if-grant-seen-ne0.false)
+    (omega arith, passed_next b h.d h.seen h.invariant.1 set (omega arith))
 
 pub returns : goal.returns
 returns c =
