@@ -1,8 +1,10 @@
 // The program `admit`: a plan on standard input, the verdict on standard output. `main` reads, calls
 // `report::answer` and writes; without a whole input there is no verdict, and a line on standard error says so.
+// Its own status is 0 either way: the exit status is that of the command `./admit`.
 #![tactic(auto)]
 
 use report::INPUT_BYTES;
+use std::io::{Read, Write};
 use text::TEXT_BYTES;
 
 #[derive(Clone, Copy)]
@@ -16,20 +18,18 @@ const MOST_FORGOTTEN: usize = 1073741824;
 
 // Reads to the end of the input, and keeps as many bytes of it as there is room for. No signal interrupts a
 // read, since the program handles none, so that each read that fails is a failure.
-fn read_input(kept: &mut [u8]) -> Input {
+fn read_input(input: &mut impl Read, kept: &mut [u8]) -> Input {
     let mut done = 0;
     while done < kept.len() {
-        let got = libc::read(libc::STDIN_FILENO, &mut kept[done..]);
-        if got < 0 {
+        let Ok(more) = input.read(&mut kept[done..]) else {
             return Input::Failed;
-        }
-        let more = io::count(got, &kept[done..]);
+        };
         if more == 0 {
             return Input::Whole(done);
         }
         done += more;
     }
-    if read_on() {
+    if read_on(input) {
         Input::Whole(done)
     } else {
         Input::Failed
@@ -37,15 +37,13 @@ fn read_input(kept: &mut [u8]) -> Input {
 }
 
 // Reads on to the end. An input that does not end is left, since a program is proved to end.
-fn read_on() -> bool {
-    let mut rest = io::large_buffer();
+fn read_on(input: &mut impl Read) -> bool {
+    let mut rest = [0u8; 65536];
     let mut forgotten: usize = 0;
     while forgotten < MOST_FORGOTTEN {
-        let got = libc::read(libc::STDIN_FILENO, &mut rest);
-        if got < 0 {
+        let Ok(more) = input.read(&mut rest) else {
             return false;
-        }
-        let more = io::count(got, &rest);
+        };
         if more == 0 {
             return true;
         }
@@ -54,18 +52,69 @@ fn read_on() -> bool {
     true
 }
 
-fn main() {
+fn main(rt: HostRuntime) {
     let mut input = [0u8; INPUT_BYTES];
-    let Input::Whole(read) = read_input(&mut input) else {
-        io::write_all(libc::STDERR_FILENO, b"admit: the input could not be read\n");
+    let Input::Whole(read) = read_input(&mut rt.stdin(), &mut input) else {
+        let _ = eprintln!(rt; "admit: the input could not be read");
         return;
     };
     let mut text = [0u8; TEXT_BYTES];
     let length = report::answer(&input, read, &mut text);
-    if !io::write_all(libc::STDOUT_FILENO, &text[..length]) {
-        io::write_all(
-            libc::STDERR_FILENO,
-            b"admit: the verdict could not be written\n",
-        );
+    if rt.stdout().write_all(&text[..length]).is_err() {
+        let _ = eprintln!(rt; "admit: the verdict could not be written");
+    }
+}
+
+#[cfg(test)]
+mod tests {
+    use super::*;
+    use std::io;
+
+    // Gives one byte a read, and then ends or fails.
+    #[derive(Drop)]
+    struct Slow {
+        left: usize,
+        fails: bool,
+    }
+
+    impl Read for Slow {
+        fn read(&mut self, buf: &mut [u8]) -> io::Result<usize> {
+            if self.left == 0 {
+                if self.fails {
+                    return Err(io::Error::from(io::ErrorKind::Other));
+                }
+                return Ok(0);
+            }
+            if buf.is_empty() {
+                return Ok(0);
+            }
+            buf[0] = 7;
+            self.left -= 1;
+            Ok(1)
+        }
+    }
+
+    fn read_slowly(left: usize, fails: bool, kept: &mut [u8]) -> Input {
+        read_input(&mut Slow { left, fails }, kept)
+    }
+
+    #[test]
+    fn short_reads_are_joined(rt: HostRuntime) {
+        let mut kept = [0u8; 4];
+        assert!(rt; matches!(read_slowly(3, false, &mut kept), Input::Whole(3)));
+        assert!(rt; kept == [7, 7, 7, 0]);
+    }
+
+    #[test]
+    fn more_than_is_kept_is_read_and_forgotten(rt: HostRuntime) {
+        let mut kept = [0u8; 4];
+        assert!(rt; matches!(read_slowly(9, false, &mut kept), Input::Whole(4)));
+    }
+
+    #[test]
+    fn a_failure_is_no_end(rt: HostRuntime) {
+        let mut kept = [0u8; 4];
+        assert!(rt; matches!(read_slowly(3, true, &mut kept), Input::Failed));
+        assert!(rt; matches!(read_slowly(9, true, &mut kept), Input::Failed));
     }
 }

@@ -6,82 +6,82 @@ use frames::{ActiveColours, Faulted, Looked, QuotaSet, Released};
 use moves::Moved;
 use vectors_input::{hash_table, hash_words, line, part, refused};
 
-pub fn looked(answer: Looked) {
+pub fn looked(out: &impl Print, answer: Looked) {
     match answer {
-        Looked::Mapped(frame) => line(b"mapped ", frame),
-        Looked::Unmapped => vectors_input::text(b"unmapped\n"),
-        Looked::Refused(refusal) => refused(refusal),
+        Looked::Mapped(frame) => line(out, b"mapped ", frame),
+        Looked::Unmapped => vectors_input::text(out, b"unmapped\n"),
+        Looked::Refused(refusal) => refused(out, refusal),
     }
 }
 
-pub fn faulted(answer: Faulted) {
+pub fn faulted(out: &impl Print, answer: Faulted) {
     match answer {
-        Faulted::Old(frame) => line(b"old ", frame),
-        Faulted::New(frame) => line(b"new ", frame),
-        Faulted::Refused(refusal) => refused(refusal),
+        Faulted::Old(frame) => line(out, b"old ", frame),
+        Faulted::New(frame) => line(out, b"new ", frame),
+        Faulted::Refused(refusal) => refused(out, refusal),
     }
 }
 
-pub fn released(answer: Released) {
+pub fn released(out: &impl Print, answer: Released) {
     match answer {
-        Released::Freed(frame) => line(b"freed ", frame),
-        Released::Refused(refusal) => refused(refusal),
+        Released::Freed(frame) => line(out, b"freed ", frame),
+        Released::Refused(refusal) => refused(out, refusal),
     }
 }
 
-pub fn active(answer: ActiveColours) {
+pub fn active(out: &impl Print, answer: ActiveColours) {
     match answer {
         ActiveColours::Set(set, quota) => {
-            part(b"active ", set as u64);
-            line(b" quota ", quota);
+            part(out, b"active ", set as u64);
+            line(out, b" quota ", quota);
         }
-        ActiveColours::Refused(refusal) => refused(refusal),
+        ActiveColours::Refused(refusal) => refused(out, refusal),
     }
 }
 
-pub fn quota_set(answer: QuotaSet) {
+pub fn quota_set(out: &impl Print, answer: QuotaSet) {
     match answer {
-        QuotaSet::Quota(quota) => line(b"quota ", quota),
-        QuotaSet::Refused(refusal) => refused(refusal),
+        QuotaSet::Quota(quota) => line(out, b"quota ", quota),
+        QuotaSet::Refused(refusal) => refused(out, refusal),
     }
 }
 
 // The count of moves, 0 where the call is refused.
-pub fn moved(answer: Moved) -> u32 {
+pub fn moved(out: &impl Print, answer: Moved) -> u32 {
     match answer {
         Moved::Count(count) => {
-            line(b"moved ", count);
+            line(out, b"moved ", count);
             count
         }
         Moved::Refused(refusal) => {
-            refused(refusal);
+            refused(out, refusal);
             0
         }
     }
 }
 
-pub fn table(words: &[u16]) {
-    line(b"table ", hash_table(words, 0, words.len()));
+pub fn table(out: &impl Print, words: &[u16]) {
+    line(out, b"table ", hash_table(words, 0, words.len()));
 }
 
-pub fn board(after: Board) {
+pub fn board(out: &impl Print, after: Board) {
     let numbers = [after.colours, after.frames, after.domains];
     let grants = after.grants;
     let active = after.active;
     let quotas = after.quotas;
     let sets = hash_words(hash_words(hash_words(0, &numbers), &grants), &active);
     let hash = hash_words(sets, &quotas);
-    part(b"board ", hash as u64);
+    part(out, b"board ", hash as u64);
 }
 
 // The triples of a recolouring as they stand in its move list, and the rest of the list.
-pub fn moves(list: &[u16], count: u32) {
+pub fn moves(out: &impl Print, list: &[u16], count: u32) {
     let end = 3 * (count as usize);
-    part(b" moves ", hash_table(list, 0, end) as u64);
-    line(b" rest ", hash_table(list, end, list.len()));
+    part(out, b" moves ", hash_table(list, 0, end) as u64);
+    line(out, b" rest ", hash_table(list, end, list.len()));
 }
 
 // The list of a taking back.
-pub fn list(words: &[u16]) {
-    line(b" list ", hash_table(words, 0, words.len()));
+pub fn list(out: &impl Print, words: &[u16]) {
+    line(out, b" list ", hash_table(words, 0, words.len()));
 }

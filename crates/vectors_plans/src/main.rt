@@ -3,58 +3,73 @@
 #![tactic(auto)]
 
 use board::Board;
+use std::io::Read;
 
 mod output;
 
 // The lists of times and of rounds that an admission is lent hold words that tell whether one was changed.
-fn admit(board: Board, reload: u32, vcpus: &[u32], tasks: &[u32]) {
+fn admit(
+    input: &mut impl Read,
+    out: &impl Print,
+    board: Board,
+    reload: u32,
+    vcpus: &[u32],
+    tasks: &[u32],
+) {
     let mut time_room = [0u32; 60];
-    let times = vectors_input::marked_list(&mut time_room);
+    let times = vectors_input::marked_list(input, &mut time_room);
     let mut round_room = [0u32; 60];
-    let rounds = vectors_input::marked_list(&mut round_room);
+    let rounds = vectors_input::marked_list(input, &mut round_room);
     let answer = admission::admit_plan(board, reload, vcpus, tasks, times, rounds);
-    output::admission(answer, times, rounds, vcpus.len() / 4 + tasks.len() / 20);
+    output::admission(
+        out,
+        answer,
+        times,
+        rounds,
+        vcpus.len() / 4 + tasks.len() / 20,
+    );
 }
 
-fn admission_case() {
-    let board = vectors_input::next_board();
-    let reload = vectors_input::next_word();
+fn admission_case(input: &mut impl Read, out: &impl Print) {
+    let board = vectors_input::next_board(input);
+    let reload = vectors_input::next_word(input);
     let mut vcpu_room = [0u32; 80];
-    let vcpus = vectors_input::next_list(&mut vcpu_room);
+    let vcpus = vectors_input::next_list(input, &mut vcpu_room);
     let mut task_room = [0u32; 700];
-    let tasks = vectors_input::next_list(&mut task_room);
-    admit(board, reload, vcpus, tasks);
+    let tasks = vectors_input::next_list(input, &mut task_room);
+    admit(input, out, board, reload, vcpus, tasks);
 }
 
-fn part_case() {
-    let vcpu = vectors_input::next_word();
+fn part_case(input: &mut impl Read, out: &impl Print) {
+    let vcpu = vectors_input::next_word(input);
     let mut room = [0u32; 700];
-    let tasks = vectors_input::next_list(&mut room);
+    let tasks = vectors_input::next_list(input, &mut room);
     let own = rows::part(tasks, vcpu);
-    vectors_input::part(b"part ", own.len() as u64);
-    vectors_input::line(b" ", vectors_input::hash_words(0, own));
+    vectors_input::part(out, b"part ", own.len() as u64);
+    vectors_input::line(out, b" ", vectors_input::hash_words(0, own));
 }
 
-fn supply_case() {
-    let period = vectors_input::next_word();
-    let budget = vectors_input::next_word();
-    let t = vectors_input::next_word();
-    vectors_input::text(b"supply ");
-    vectors_input::number(supply::least(period, budget, t));
+fn supply_case(input: &mut impl Read, out: &impl Print) {
+    let period = vectors_input::next_word(input);
+    let budget = vectors_input::next_word(input);
+    let t = vectors_input::next_word(input);
+    vectors_input::text(out, b"supply ");
+    vectors_input::number(out, supply::least(period, budget, t));
 }
 
-fn answer() {
-    match vectors_input::next_word() {
-        0 => admission_case(),
-        1 => part_case(),
-        _ => supply_case(),
+fn answer(input: &mut impl Read, out: &impl Print) {
+    match vectors_input::next_word(input) {
+        0 => admission_case(input, out),
+        1 => part_case(input, out),
+        _ => supply_case(input, out),
     }
 }
 
-fn main() {
-    let mut left = vectors_input::next_word();
+fn main(rt: HostRuntime) {
+    let mut input = rt.stdin();
+    let mut left = vectors_input::next_word(&mut input);
     while 0 < left {
-        answer();
+        answer(&mut input, &rt);
         left -= 1;
     }
 }

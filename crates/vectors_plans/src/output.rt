@@ -3,40 +3,40 @@
 use admission::Admission;
 use vectors_input::{line, part, text};
 
-fn list_line(list: &[u32]) {
-    line(b"list ", vectors_input::hash_words(0, list));
+fn list_line(out: &impl Print, list: &[u32]) {
+    line(out, b"list ", vectors_input::hash_words(0, list));
 }
 
-fn word(value: u32) {
-    part(b" ", value as u64);
+fn word(out: &impl Print, value: u32) {
+    part(out, b" ", value as u64);
 }
 
-fn words_line(name: &[u8], list: &[u32], rows: usize) {
+fn words_line(out: &impl Print, name: &[u8], list: &[u32], rows: usize) {
     if list.len() < rows {
         return;
     }
-    text(name);
+    text(out, name);
     let mut i = 0;
     while i < rows {
-        word(list[i]);
+        word(out, list[i]);
         i += 1;
     }
-    text(b"\n");
+    text(out, b"\n");
 }
 
-pub fn admission(answer: Admission, times: &[u32], rounds: &[u32], rows: usize) {
+pub fn admission(out: &impl Print, answer: Admission, times: &[u32], rounds: &[u32], rows: usize) {
     match answer {
         Admission::Admitted => {
-            text(b"admitted\n");
-            list_line(times);
-            words_line(b"times", times, rows);
-            list_line(rounds);
-            words_line(b"rounds", rounds, rows);
+            text(out, b"admitted\n");
+            list_line(out, times);
+            words_line(out, b"times", times, rows);
+            list_line(out, rounds);
+            words_line(out, b"rounds", rounds, rows);
         }
         Admission::Refused(refusal) => {
-            vectors_input::refused(refusal);
-            list_line(times);
-            list_line(rounds);
+            vectors_input::refused(out, refusal);
+            list_line(out, times);
+            list_line(out, rounds);
         }
     }
 }

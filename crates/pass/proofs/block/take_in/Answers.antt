@@ -46,4 +46,9 @@ returns c =
     let a = c.args in
     let t : List ℕ = a.words.now in
     let all : take h.i t ≡ t = take_all h.i t (omega arith) in
-    let end : h.i ≡ length t = omega arith in record { value = asked_end (matters t a.word a.free.now) (length t) h.i h.stop (omega arith) h.invariant.4; held_after = counted_end _ _ _ h.invariant.3 (omega arith); block_after = h.invariant.2 ∙ ap₂ (λ (xs : List ℕ) (j : ℕ). xs ++ drop j a.block.now) all end }
+    let end : h.i ≡ length t = omega arith in
+    record {
+      value = asked_end (matters t a.word a.free.now) (length t) h.i h.stop (omega arith) h.invariant.4;
+      held_after = counted_end _ _ _ h.invariant.3 (omega arith);
+      block_after = h.invariant.2 ∙ ap₂ (λ (xs : List ℕ) (j : ℕ). xs ++ drop j a.block.now) all end;
+    }
