@@ -131,7 +131,7 @@ fn of_library() -> Vec<Prototype> {
     let sources = fs::read_dir(repository().join("crates/juzvanec/src")).expect("sources");
     let sources = sources.map(|entry| fs::read_to_string(entry.expect("a file").path()));
     let sources: Vec<String> = sources.map(|text| text.expect("text")).collect();
-    let mark = "#[no_mangle]\npub extern \"C\" fn ";
+    let mark = "#[unsafe(no_mangle)]\npub extern \"C\" fn ";
     let exported = sources.iter().flat_map(|text| text.split(mark).skip(1));
     let parameters = |name: &str, kind: &str| {
         let kind = kind.replace("board::Board", "Board");
