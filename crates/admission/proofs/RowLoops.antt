@@ -27,22 +27,22 @@ module _ (number : ℕ → ℕ) (first : ℕ) (known : List ℕ) where
         room = t.room ∙ sym (length-set kept k x);
       }
 
-module _ (time : ℕ → Time) (taken : ℕ → ℕ) (n first : ℕ) (known known-rounds : List ℕ) where
+module _ (time : ℕ → Time) (taken : ℕ → ℕ) (n first : ℕ) (known known_rounds : List ℕ) where
   abbrev late : ℕ → Bool
   late i = is_late (time i)
 
   pub record Timing (i : ℕ) (found rounds : List ℕ) : Type 0 where
     pub ahead : Seeking late 0 n i
     pub times : Recorded (λ (k : ℕ). microseconds (time k)) first known i found
-    pub counts : Recorded taken first known-rounds i rounds
+    pub counts : Recorded taken first known_rounds i rounds
 
   pub timing_start : (found rounds : List ℕ) → take first found ≡ take first known → 48 ≡ length found
-      → take first rounds ≡ take first known-rounds → 48 ≡ length rounds → Timing 0 found rounds
+      → take first rounds ≡ take first known_rounds → 48 ≡ length rounds → Timing 0 found rounds
   timing_start found rounds e r e' r' =
       record {
         ahead = seek_start late 0 n (omega arith);
         times = kept_start (λ (k : ℕ). microseconds (time k)) first known found e r;
-        counts = kept_start taken first known-rounds rounds e' r';
+        counts = kept_start taken first known_rounds rounds e' r';
       }
 
   pub timing_next : {i : ℕ} {found rounds : List ℕ} (k x m : ℕ) → k ≡ first + i → k < 48 → Timing i found rounds → i < n → time i ≡ At x → m ≡ taken i
@@ -51,11 +51,11 @@ module _ (time : ℕ → Time) (taken : ℕ → ℕ) (n first : ℕ) (known know
       record {
         ahead = seek_miss late t.ahead l (ap is_late e);
         times = kept_next (λ (j : ℕ). microseconds (time j)) first known k x at h t.times (sym (ap microseconds e));
-        counts = kept_next taken first known-rounds k m at h t.counts c;
+        counts = kept_next taken first known_rounds k m at h t.counts c;
       }
 
-  pub timing_late : {i : ℕ} {found rounds : List ℕ} → Timing i found rounds → i < n → time i ≡ Late → Timed time taken n first known known-rounds i found rounds
+  pub timing_late : {i : ℕ} {found rounds : List ℕ} → Timing i found rounds → i < n → time i ≡ Late → Timed time taken n first known known_rounds i found rounds
   timing_late t l e = record { late = seek_hit late t.ahead l (ap is_late e); times = t.times; counts = t.counts }
 
-  pub timing_end : {i : ℕ} {found rounds : List ℕ} → Timing i found rounds → n ≤ i → Timed time taken n first known known-rounds i found rounds
+  pub timing_end : {i : ℕ} {found rounds : List ℕ} → Timing i found rounds → n ≤ i → Timed time taken n first known known_rounds i found rounds
   timing_end t l = record { late = seek_end late t.ahead l; times = t.times; counts = t.counts }

@@ -10,7 +10,7 @@ pub record Recorded (number : ℕ → ℕ) (first : ℕ) (known : List ℕ) (row
   pub room : 48 ≡ length kept
 
 -- the search of n rows ended at a row, the first that is late or n
-pub record Timed (time : ℕ → Time) (taken : ℕ → ℕ) (n first : ℕ) (known known-rounds : List ℕ) (row : ℕ) (found rounds : List ℕ) : Type 0 where
+pub record Timed (time : ℕ → Time) (taken : ℕ → ℕ) (n first : ℕ) (known known_rounds : List ℕ) (row : ℕ) (found rounds : List ℕ) : Type 0 where
   pub late : row ≡ lowest (λ (i : ℕ). is_late (time i)) n
   pub times : Recorded (λ (i : ℕ). microseconds (time i)) first known row found
-  pub counts : Recorded taken first known-rounds row rounds
+  pub counts : Recorded taken first known_rounds row rounds

@@ -1,7 +1,7 @@
 // The need of a task over the part of its VCPU, and of a VCPU over the rows of its core: document 01,
 // the own cost, and for each earlier row the arrivals in t times the charge of one.
 ghost use Rattle.std.specs.Prelude.{◌≡◌, ℕ, ◌≤◌, ◌<◌, get_or};
-ghost use Rattle.times.specs.Times.{arrivals as arrivalsOf, need};
+ghost use Rattle.times.specs.Times.{arrivals as arrivals_of, need};
 ghost use Rattle.rows.specs.RowWords.{task_period, vcpu_rows, task_rows};
 ghost use Rattle.rows.specs.ValidRows.{Tasks, Vcpus};
 ghost use Rattle.admission.specs.EarlierVcpus.{RowInRange, OnCore};
@@ -11,7 +11,7 @@ use rows::{TASK_PERIOD, VCPU_BUDGET, VCPU_CORE, VCPU_PERIOD, task_word, vcpu_wor
 // t / period, rounded up.
 fn arrivals(t: u32, period: u32) -> u64
     requires { (t ≤ 1000000) × (1 ≤ period) × (period ≤ 1000000) }
-    ensures { result ≡ arrivalsOf t period }
+    ensures { result ≡ arrivals_of t period }
 {
     ((t + (period - 1)) / period) as u64
 }

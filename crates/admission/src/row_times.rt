@@ -4,7 +4,7 @@ ghost use Rattle.std.specs.Prelude.{◌≡◌, ◌++◌, ◌≤◌, ◌<◌, len
 ghost use Rattle.rows.specs.RowWords.{vcpu_rows, task_rows, vcpu_of};
 ghost use Rattle.rows.specs.Part.{part_start};
 ghost use Rattle.rows.specs.ValidRows.{Vcpus, Plan};
-ghost use Rattle.times.specs.Times.{vcpu_time, task_time as taskTimeOf};
+ghost use Rattle.times.specs.Times.{vcpu_time, task_time as task_time_of};
 ghost use Rattle.times.specs.Rounds.{vcpu_rounds, task_rounds};
 ghost use Rattle.admission.specs.Paper.{paper_found};
 ghost use Rattle.admission.specs.RowTimes.{Timed};
@@ -42,7 +42,7 @@ pub(crate) fn vcpu_times(
 // The time of a row of the task list, over the part of its VCPU alone, which starts at a known row.
 fn task_time(reload: u32, vcpus: &[u32], tasks: &[u32], start: usize, j: u32) -> Search
     requires { Plan reload vcpus.now tasks.now × (j < task_rows tasks.now) × (start ≡ part_start tasks.now (vcpu_of tasks.now j)) }
-    ensures found_value { paper_found result.found ≡ taskTimeOf reload vcpus.now tasks.now j }
+    ensures found_value { paper_found result.found ≡ task_time_of reload vcpus.now tasks.now j }
     ensures rounds_value { result.rounds ≡ task_rounds reload vcpus.now tasks.now j }
 {
     let v = task_word(tasks, j, TASK_VCPU);
@@ -67,7 +67,7 @@ pub(crate) fn task_times(
     rounds: &mut [u32; 48],
 ) -> u32
     requires { Plan reload vcpus.now tasks.now × (first ≤ 16) × (48 ≡ length found.old) × (48 ≡ length rounds.old) }
-    ensures { Timed (taskTimeOf reload vcpus.now tasks.now) (task_rounds reload vcpus.now tasks.now) (task_rows tasks.now) first found.old rounds.old result found.new rounds.new }
+    ensures { Timed (task_time_of reload vcpus.now tasks.now) (task_rounds reload vcpus.now tasks.now) (task_rows tasks.now) first found.old rounds.old result found.new rounds.new }
 {
     let rows = (tasks.len() / TASK_WORDS) as u32;
     let mut start = 0;

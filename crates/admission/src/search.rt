@@ -2,7 +2,7 @@
 // need in t, until that is t itself, or none up to the bound is left. Document 02, No. 9 counts the rounds.
 ghost use Rattle.std.specs.Prelude.{◌≡◌, ◌≤◌, ◌<◌};
 ghost use Rattle.supply.specs.Supply.{first_supply, Budget};
-ghost use Rattle.times.specs.Times.{time_in_part, vcpu_time as vcpuTimeOf};
+ghost use Rattle.times.specs.Times.{time_in_part, vcpu_time as vcpu_time_of};
 ghost use Rattle.times.specs.Rounds.{rounds_in_part, vcpu_rounds};
 ghost use Rattle.rows.specs.RowWords.{vcpu_rows, task_rows};
 ghost use Rattle.rows.specs.ValidRows.{Tasks, Vcpus};
@@ -75,7 +75,7 @@ pub(crate) fn time_in_part(period: u32, budget: u32, reload: u32, part: &[u32], 
 // The time of a VCPU: its supply in t is t.
 pub(crate) fn vcpu_time(vcpus: &[u32], i: u32) -> Search
     requires { Vcpus vcpus.now × (i < vcpu_rows vcpus.now) }
-    ensures found_value { paper_found result.found ≡ vcpuTimeOf vcpus.now i }
+    ensures found_value { paper_found result.found ≡ vcpu_time_of vcpus.now i }
     ensures rounds_value { result.rounds ≡ vcpu_rounds vcpus.now i }
 {
     let due = vcpu_word(vcpus, i, VCPU_PERIOD) as u64;

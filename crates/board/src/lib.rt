@@ -6,7 +6,7 @@ mod fields;
 mod quotas;
 
 ghost use Rattle.std.specs.Prelude.{◌≡◌};
-ghost use Rattle.refusal.specs.Reply.{test, also as alsoTest};
+ghost use Rattle.refusal.specs.Reply.{test, also as also_test};
 ghost use Rattle.board.specs.Paper.{paper_checked};
 
 pub use fields::{active_set, grant_of, quota_of};
@@ -34,7 +34,7 @@ pub enum Checked {
 
 // What the tests so far say, and one more behind them, whose row is 0.
 pub fn also(checked: Checked, number: u32, fails: bool) -> Checked
-    ensures { paper_checked result ≡ alsoTest (paper_checked checked) (test number fails) }
+    ensures { paper_checked result ≡ also_test (paper_checked checked) (test number fails) }
 {
     match checked {
         Checked::Refused(refusal) => Checked::Refused(refusal),

@@ -44,11 +44,11 @@ either_first t a b h =
     let w : ℕ = word t b.source in
     let ta : List ℕ = set t a.source 0 in
     let tb : List ℕ = set t b.source 0 in
-    let w-stays : word (move t a) b.source ≡ w =
+    let w_stays : word (move t a) b.source ≡ w =
     get_or-set_other ta a.target b.source v 0 (λ e. h.in_out (sym e)) ∙ get_or-set_other t a.source b.source 0 0 (λ e. h.sources (sym e)) in
-    let v-stays : word (move t b) a.source ≡ v =
+    let v_stays : word (move t b) a.source ≡ v =
     get_or-set_other tb b.target a.source w 0 h.out_in ∙ get_or-set_other t b.source a.source 0 0 h.sources in
-    rw (w-stays, v-stays)
+    rw (w_stays, v_stays)
     (ap (λ (u : List ℕ). set u b.target w) (set_comm ta a.target b.source v 0 h.in_out)
     ∙ ap (λ (u : List ℕ). set (set u a.target v) b.target w) (set_comm t a.source b.source 0 0 h.sources)
     ∙ set_comm (set tb a.source 0) a.target b.target v w h.targets

@@ -48,9 +48,9 @@ module _ (n m : ℕ) (coloured : 0 < n) (free held : ℕ → Bool) where
   pub next : (g : ℕ) → g < m → free g ≡ true → Next
   unfolding next_frame next_colour in_colour
   next g l e =
-      let with-free : (f : ℕ) → f < m → free f ≡ true → has_free (f % n) ≡ true = λ f h o. lt-ltb 0 (in_colour n m free (f % n)) (in_own_colour n m free f h o) in
+      let with_free : (f : ℕ) → f < m → free f ≡ true → has_free (f % n) ≡ true = λ f h o. lt-ltb 0 (in_colour n m free (f % n)) (in_own_colour n m free f h o) in
       let x : ℕ = next_colour n m free held in
-      let there : x < n = fewest_there has_free _ n (g % n) (mod-lt g coloured) (with-free g l e) in
+      let there : x < n = fewest_there has_free _ n (g % n) (mod-lt g coloured) (with_free g l e) in
       let r = fewest_found has_free _ n there in
       let low = lowest_counts n m free x (ltb-true 0 (in_colour n m free x) r.passes) in
       let below : next_frame n m free held < m = some_lowest _ m (some_kept _ m _ low.below (simp (low.passes, low.colour, self))) in
@@ -60,8 +60,8 @@ module _ (n m : ℕ) (coloured : 0 < n) (free held : ℕ → Bool) where
         below = below;
         is_free_lem = both.0;
         colour = eqb-true _ _ both.1;
-        least = λ f h u. omega (arith, r.least (f % n) (mod-lt f coloured) (with-free f h u));
-        lowest_colour = λ f h u k. omega (arith, fewest_before has_free _ n there (f % n) k (with-free f h u));
+        least = λ f h u. omega (arith, r.least (f % n) (mod-lt f coloured) (with_free f h u));
+        lowest_colour = λ f h u k. omega (arith, fewest_before has_free _ n there (f % n) k (with_free f h u));
         lowest_frame = λ g u k.
             below_or_not g (next_frame n m free held)
             (λ h. absurd (true≢false (sym (simp (u, k, self)) ∙ hit.before g zero-le h)))

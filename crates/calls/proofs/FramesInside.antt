@@ -45,13 +45,13 @@ module _ (n m d c : ℕ) (t₀ : List ℕ) where
   one_less_lem t v g vs long low inside left f l e =
       let o = and_both (is_held (set (set t v 0) g (word t v)) d f) _ e in
       let other : f ≡ g → ⊥ = λ z. true≢false (sym inside ∙ rw (← z) (not-true _ o.1)) in
-      let from-v : word (set (set t v 0) g (word t v)) f ≡ word (set t v 0) f = get_or-set_other (set t v 0) g f (word t v) 0 other in
+      let from_v : word (set (set t v 0) g (word t v)) f ≡ word (set t v 0) f = get_or-set_other (set t v 0) g f (word t v) 0 other in
       cases (eqb f v)
       (λ q.
       let none : word (set t v 0) f ≡ 0 = rw (eqb-true f v q) (get_or-set_same t v 0 0 (omega arith)) in
-      absurd (true≢false (sym o.0 ∙ ap (is_of d) (from-v ∙ none) ∙ rw (lt-leb (word_of d 0) 0 (omega arith)))))
+      absurd (true≢false (sym o.0 ∙ ap (is_of d) (from_v ∙ none) ∙ rw (lt-leb (word_of d 0) 0 (omega arith)))))
       (λ q.
-      let same = from-v ∙ get_or-set_other t v f 0 0 (eqb-false f v q) in
+      let same = from_v ∙ get_or-set_other t v f 0 0 (eqb-false f v q) in
       rw q at (left f l (rw same at e)))
 
   none_left : (vs gs t : List ℕ) → length t ≡ m → length vs ≤ length gs → Each (λ (v : ℕ). v < m) vs → Each (λ (g : ℕ). in_set n c g ≡ true) gs

@@ -37,16 +37,16 @@ recoloured s d c lent n e =
     let eight : List Test = call_tests s.board (length s.table) d in
     let own : List Test = recolour_tests s d c (length lent) in
     let r = settled_answers s _ (eight ++ own) (Moved n) e in
-    let own-passed = passed_first _ _ (passed_later eight own r.0) in
+    let own_passed = passed_first _ _ (passed_later eight own r.0) in
     let fine = accepted s.board (length s.table) d (passed_answers eight (tt {0}) (passed_earlier eight own r.0)) in
     record {
       fine = fine;
       coloured = (count_range s.board.colours fine.passed.count).0;
-      room = ltb-false _ _ (passed_first _ _ own-passed.1).0;
+      room = ltb-false _ _ (passed_first _ _ own_passed.1).0;
       count = cc r.1;
       moves = ap (λ o. (settle s o).moves) (passed_answers (eight ++ own) _ r.0);
       table = ap (λ o. (settle s o).next.table) (passed_answers (eight ++ own) _ r.0);
-      nine = own-passed.0;
+      nine = own_passed.0;
       board = ap (λ o. (settle s o).next.board) (passed_answers (eight ++ own) _ r.0);
     }
 

@@ -62,10 +62,10 @@ module _ (n m c : ℕ) (count free : ℕ → ℕ) where
     pub fewest_key : r < full_key → fewest takes count n ≡ k
     fewest_key h =
         let t = below_full r low h in
-        let none-less : (y : ℕ) → y < n → takes y ≡ true → 16 * count k + k ≤ 16 * count y + y = λ y l e. omega (arith, key_of_it h, low.least y (omega (arith, l, few)), key_is y l e) in
+        let none_less : (y : ℕ) → y < n → takes y ≡ true → 16 * count k + k ≤ 16 * count y + y = λ y l e. omega (arith, key_of_it h, low.least y (omega (arith, l, few)), key_is y l e) in
         fewest_is takes count n k
-        (record { below = t.below; passes = t.takes_it; least = λ y l e. omega (arith, none-less y l e, l, few) })
-        (λ y l e. omega (arith, none-less y (omega (arith, l, t.below)) e, l))
+        (record { below = t.below; passes = t.takes_it; least = λ y l e. omega (arith, none_less y l e, l, few) })
+        (λ y l e. omega (arith, none_less y (omega (arith, l, t.below)) e, l))
 
     pub no_key : full_key ≤ r → fewest takes count n ≡ n
     no_key h =

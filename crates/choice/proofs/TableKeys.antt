@@ -30,10 +30,10 @@ module _ (p : ℕ → Bool) (m f : ℕ) (fl : f < m) (out : p f ≡ false) where
 
   pub two_less : (g : ℕ) → g < m → (g ≡ f → ⊥) → p g ≡ false → length (keep p (upto m)) + 1 < m
   two_less g gl off e =
-      let with-g : ℕ → Bool = λ x. with_f x || eqb x g in
-      let more : length (keep with-g (upto m)) ≡ suc (length (keep with_f (upto m))) =
-      one_more with_f with-g g (λ x other. sym (rw (ne_eqb x g other) (or-false (with_f x)))) (rw (e, ne_eqb g f off)) (rw (eq-eqb g g refl) (or-true (with_f g))) m 0 (omega arith) (omega (arith, gl)) in
-      omega (arith, more, one_out, kept_le with-g m 0)
+      let with_g : ℕ → Bool = λ x. with_f x || eqb x g in
+      let more : length (keep with_g (upto m)) ≡ suc (length (keep with_f (upto m))) =
+      one_more with_f with_g g (λ x other. sym (rw (ne_eqb x g other) (or-false (with_f x)))) (rw (e, ne_eqb g f off)) (rw (eq-eqb g g refl) (or-true (with_f g))) m 0 (omega arith) (omega (arith, gl)) in
+      omega (arith, more, one_out, kept_le with_g m 0)
 
 -- On a table: a colour with a free frame has at least one frame that is not held, and there is another of another colour where
 -- there is one

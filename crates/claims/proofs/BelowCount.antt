@@ -235,9 +235,9 @@ module _ (b : Board) (gs xs qs : List ℕ) (f : Fields b gs xs qs) (reload : ℕ
 
   same_last : passes vcpu_tests ≡ true → last b ≡ last (with_fields b gs xs qs)
   same_last ok =
-      let each-is = same_each (bad_task b vcpus tasks) (bad_task (with_fields b gs xs qs) vcpus tasks) 18 (task_rows tasks)
+      let each_is = same_each (bad_task b vcpus tasks) (bad_task (with_fields b gs xs qs) vcpus tasks) 18 (task_rows tasks)
       (λ j l. same_task (each_passed 17 (bad_vcpu b vcpus) (vcpu_rows vcpus) ok) j) in
-      ap (λ (ts : List Test). (ts ++ other_tests) ++ time_tests reload vcpus tasks) each-is
+      ap (λ (ts : List Test). (ts ++ other_tests) ++ time_tests reload vcpus tasks) each_is
 
   plan_is : (c : Board) → c.domains ≡ b.domains
       → plan_tests c reload vcpus tasks room ++ time_tests reload vcpus tasks ≡ first ++ (each (vcpu_rows vcpus) 17 (bad_vcpu c vcpus) ++ last c)

@@ -90,8 +90,8 @@ module _ (f c : ℕ) where
   unfolding is_colour_set
   consecutive_set n some h =
       let first = digit_in f (le_refl f) (omega arith) in
-      let not-0 : consecutive f c ≡ 0 → ⊥ = λ e. omega (arith, zero-div (2 ^ f), rw e at first) in
-      simp (ne_eqb (consecutive f c) 0 not-0, div-eq_of_lt (consecutive_lt n h))
+      let not_0 : consecutive f c ≡ 0 → ⊥ = λ e. omega (arith, zero-div (2 ^ f), rw e at first) in
+      simp (ne_eqb (consecutive f c) 0 not_0, div-eq_of_lt (consecutive_lt n h))
 
   -- and conversely
   pub consecutive_within : (n : ℕ) → 0 < c → consecutive f c < 2 ^ n → f + c ≤ n
@@ -100,8 +100,8 @@ module _ (f c : ℕ) where
       (λ l.
       let x : ℕ = f + c - 1 in
       let last = digit_in x (omega arith) (omega arith) in
-      let n-le : n ≤ x = omega arith in
-      let none = div-eq_of_lt (lt_of_lt_of_le h (pow_mono n-le)) in
+      let n_le : n ≤ x = omega arith in
+      let none = div-eq_of_lt (lt_of_lt_of_le h (pow_mono n_le)) in
       absurd (lt_irrefl 0 (omega (arith, rw none at last))))
       (λ l. l)
 
@@ -124,12 +124,12 @@ bleach_aligned m k j p fits h =
     let f : ℕ = j * 2 ^ k in
     let x : ℕ = p % 2 ^ m in
     let r = bleach_consecutive f (2 ^ k) (2 ^ m) p h in
-    let k-le : k ≤ m = below_or_not m k (λ l. absurd (lt_irrefl 0 (omega (arith, pow-lt l)))) (λ l. l) in
-    let m-is : m - k + k ≡ m = omega arith in
-    let x-is : x ≡ f + (x - f) = omega arith in
-    let low_x : x % 2 ^ k ≡ x - f = ap (λ (y : ℕ). y % 2 ^ k) x-is ∙ low j k (omega arith) in
-    let low-p : p % 2 ^ k ≡ x - f = sym (mod-mod-pow p (m - k) k) ∙ rw m-is low_x in
-    rw (min-eq_left k-le, low-p) r.2
+    let k_le : k ≤ m = below_or_not m k (λ l. absurd (lt_irrefl 0 (omega (arith, pow-lt l)))) (λ l. l) in
+    let m_is : m - k + k ≡ m = omega arith in
+    let x_is : x ≡ f + (x - f) = omega arith in
+    let low_x : x % 2 ^ k ≡ x - f = ap (λ (y : ℕ). y % 2 ^ k) x_is ∙ low j k (omega arith) in
+    let low_p : p % 2 ^ k ≡ x - f = sym (mod-mod-pow p (m - k) k) ∙ rw m_is low_x in
+    rw (min-eq_left k_le, low_p) r.2
 
 -- with all products as they stand: q rows of k places for q rows of n colours
 regroup : (b rows places x l : ℕ) → l ≤ x → places ≤ rows → b + (places + (x - l)) ≡ b + (rows + x) - (rows - places) - l
@@ -144,7 +144,7 @@ bleach_interval n l u b a lu un ba h =
     let k : ℕ = u - l + 1 in
     let q : ℕ = p / n in
     let r = bleach_consecutive l k n p h in
-    let k-le : k ≤ n = omega arith in
-    let a-is : b + (q * n + p % n) ≡ a = rw (div-add-mod' p n) (omega arith) in
-    ap (λ (i : ℕ). b + i) r.2 ∙ regroup b (q * n) (q * k) (p % n) l r.0 (mul-le-mul_left q k-le)
-    ∙ ap₂ (λ (x y : ℕ). x - y - l) a-is (sym (mul-sub q n k))
+    let k_le : k ≤ n = omega arith in
+    let a_is : b + (q * n + p % n) ≡ a = rw (div-add-mod' p n) (omega arith) in
+    ap (λ (i : ℕ). b + i) r.2 ∙ regroup b (q * n) (q * k) (p % n) l r.0 (mul-le-mul_left q k_le)
+    ∙ ap₂ (λ (x y : ℕ). x - y - l) a_is (sym (mul-sub q n k))

@@ -19,8 +19,8 @@ cache_answers : (b w n : ℕ) → 0 < w → is_colour_count n ≡ true → b ≡
 unfolding cache_reply unless
 cache_answers b w n some count e =
     let way : 0 < w * 4096 = omega arith in
-    let not-0 : w ≡ 0 → ⊥ = omega arith in
-    rw e (simp (ne_eqb w 0 not-0, mul-mod_left n (w * 4096), mul-div_cancel n way, count))
+    let not_0 : w ≡ 0 → ⊥ = omega arith in
+    rw e (simp (ne_eqb w 0 not_0, mul-mod_left n (w * 4096), mul-div_cancel n way, count))
 
 cache_answered : (b w n : ℕ) → cache_reply b w ≡ Answers n → (0 < w) × (is_colour_count n ≡ true) × (b ≡ n * (w * 4096))
 unfolding cache_reply

@@ -51,8 +51,8 @@ module _ (n s : ℕ) (set : is_colour_set n s ≡ true) where
     index_back i h =
         let p : ℕ = layout_page n s i in
         let i_lt : i < 2 ^ 24 = omega arith in
-        let p-le : p ≤ 2 ^ 28 - 1 = omega (arith, layout_lt (colour_set_lem n s set) 24 i i_lt, count_range n count) in
-        (layout_answers n s count set i h, bleach_answers n s count set p p-le (laid_out_colour i) ∙ ap Answers (layout_then_bleaching i))
+        let p_le : p ≤ 2 ^ 28 - 1 = omega (arith, layout_lt (colour_set_lem n s set) 24 i i_lt, count_range n count) in
+        (layout_answers n s count set i h, bleach_answers n s count set p p_le (laid_out_colour i) ∙ ap Answers (layout_then_bleaching i))
 
     pub page_back :
         (p : ℕ) → p ≤ 2 ^ 28 - 1 → has s (colour_of n p) ≡ true → bleach_index n s p ≤ 2 ^ 24 - 1

@@ -1,7 +1,7 @@
 // Colours: document 01, the active set of a domain, and 02, No. 6, its quota, with refusals 2 to 7, 26 and 8.
 ghost use Rattle.std.specs.Prelude.{◌≡◌};
 ghost use Rattle.calls.specs.Table.{state_of};
-ghost use Rattle.calls.specs.Calls.{colours as coloursCall};
+ghost use Rattle.calls.specs.Calls.{colours as colours_call};
 ghost use Rattle.frames.specs.Paper.{paper_active};
 
 use board::{Board, Checked, active_set, quota_of};
@@ -16,7 +16,7 @@ pub enum ActiveColours {
 
 // The domain's active set and its quota.
 pub fn colours(board: Board, table: &[u16], domain: u32) -> ActiveColours
-    ensures { paper_active result ≡ (coloursCall (state_of board table.now) domain).reply }
+    ensures { paper_active result ≡ (colours_call (state_of board table.now) domain).reply }
 {
     match check_call(board, table.len(), domain) {
         Checked::Refused(refusal) => ActiveColours::Refused(refusal),

@@ -3,7 +3,7 @@
 ghost use Rattle.std.specs.Prelude.{◌≡◌};
 ghost use Rattle.board.specs.Paper.{paper_checked};
 ghost use Rattle.calls.specs.Table.{state_of};
-ghost use Rattle.calls.specs.Calls.{look as lookCall, fault as faultCall, release as releaseCall};
+ghost use Rattle.calls.specs.Calls.{look as look_call, fault as fault_call, release as release_call};
 ghost use Rattle.frames.specs.Paper.{paper_looked, paper_faulted, paper_released};
 ghost use Rattle.frames.specs.Steps.{page_reply};
 
@@ -44,7 +44,7 @@ fn check_page(board: Board, words: usize, domain: u32, page: u32) -> Checked
 
 // The lowest frame with the domain's word for the page.
 pub fn look(board: Board, table: &[u16], domain: u32, page: u32) -> Looked
-    ensures { paper_looked result ≡ (lookCall (state_of board table.now) domain page).reply }
+    ensures { paper_looked result ≡ (look_call (state_of board table.now) domain page).reply }
 {
     match check_page(board, table.len(), domain, page) {
         Checked::Refused(refusal) => Looked::Refused(refusal),
@@ -62,8 +62,8 @@ pub fn look(board: Board, table: &[u16], domain: u32, page: u32) -> Looked
 // The frame of the page, old or new: the one pass over the table, and where the page has no frame the word to
 // the one that the domain takes next, unless it is at its quota.
 pub fn fault(board: Board, table: &mut [u16], domain: u32, page: u32) -> Faulted
-    ensures result_value { paper_faulted result ≡ (faultCall (state_of board table.old) domain page).reply }
-    ensures table_after { table.new ≡ (faultCall (state_of board table.old) domain page).next.table }
+    ensures result_value { paper_faulted result ≡ (fault_call (state_of board table.old) domain page).reply }
+    ensures table_after { table.new ≡ (fault_call (state_of board table.old) domain page).next.table }
 {
     if let Checked::Refused(refusal) = check_page(board, table.len(), domain, page) {
         return Faulted::Refused(refusal);
@@ -91,8 +91,8 @@ pub fn fault(board: Board, table: &mut [u16], domain: u32, page: u32) -> Faulted
 // The frame that look finds becomes free. It is found here and not by calling look, so that each is compiled
 // into the one function that calls it, and a board is copied once less.
 pub fn release(board: Board, table: &mut [u16], domain: u32, page: u32) -> Released
-    ensures result_value { paper_released result ≡ (releaseCall (state_of board table.old) domain page).reply }
-    ensures table_after { table.new ≡ (releaseCall (state_of board table.old) domain page).next.table }
+    ensures result_value { paper_released result ≡ (release_call (state_of board table.old) domain page).reply }
+    ensures table_after { table.new ≡ (release_call (state_of board table.old) domain page).next.table }
 {
     if let Checked::Refused(refusal) = check_page(board, table.len(), domain, page) {
         return Released::Refused(refusal);

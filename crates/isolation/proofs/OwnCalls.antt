@@ -156,11 +156,11 @@ module _ {b : Board} {t₀ : List ℕ} {d : ℕ} {x y : Live} (inv : Inv b t₀ 
   same_wrong : d < b.domains → (c : ℕ) → Inside b d c → (m : Move) → wrong_move (at b x) d c m ≡ wrong_move (at b y) d c m
   same_wrong below c inside m =
       cases (ltb 4095 m.page) (λ e. rw e) (λ small.
-      cases (leb b.frames m.source) (λ e. rw (small, e)) (λ old-in.
-      cases (leb b.frames m.target) (λ e. rw (small, old-in, e)) (λ new_in.
+      cases (leb b.frames m.source) (λ e. rw (small, e)) (λ old_in.
+      cases (leb b.frames m.target) (λ e. rw (small, old_in, e)) (λ new_in.
       rw (
         same_word_test inv inv' below sees.words m.page m.target (ltb-false _ _ small) (leb-false _ _ new_in),
-        same_free_test inv inv' below sees.words c m.source inside (leb-false _ _ old-in),
+        same_free_test inv inv' below sees.words c m.source inside (leb-false _ _ old_in),
       ))))
 
   same_wrongs : d < b.domains → (c : ℕ) → Inside b d c → (ms : List Move) → any_move (wrong_move (at b x) d c) ms ≡ any_move (wrong_move (at b y) d c) ms
@@ -180,10 +180,10 @@ module _ {b : Board} {t₀ : List ℕ} {d : ℕ} {x y : Live} (inv : Inv b t₀ 
       (unless_both (Agree b d) sees (test 31 (wrong_list (at b x) d c list) ∷ []) _ _ _ _ (λ right.
       let mine = back_mine inv d below c inside (move_list list) (list_fits (at b x) d c list (passed_first _ _ right).0).each in
       let after = recolour_done below c ms mine in
-      let on-left = recoloured (moves_keep below x ms mine inv) d c below nine in
-      let on-right = recoloured (moves_keep below y ms mine inv') d c below nine in
+      let on_left = recoloured (moves_keep below x ms mine inv) d c below nine in
+      let on_right = recoloured (moves_keep below y ms mine inv') d c below nine in
       let outside : strays (restored (at b x) d c list) d c ≡ strays (restored (at b y) d c list) d c =
-      same_strays on-left on-right below after.words c in
+      same_strays on_left on_right below after.words c in
       rw (← outside)
       (unless_two (Agree b d) sees _ _ _ (λ some. answered (Agree b d) sees refl refl after)))))
 

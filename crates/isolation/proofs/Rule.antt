@@ -123,9 +123,9 @@ module _ {b : Board} {t₀ : List ℕ} {d : ℕ} (below : d < b.domains) where
   -- and two such states look the same to the domain
   pub looks_same : (s r : State) → Related b t₀ d s r → LookTheSame d s r
   looks_same s r k l m e =
-      let on-right : Related b t₀ d r r = record { left_good = k.right_good; right_good = k.right_good; agree = agree_self r } in
+      let on_right : Related b t₀ d r r = record { left_good = k.right_good; right_good = k.right_good; agree = agree_self r } in
       let first = alike step told (names_it d) (Related b t₀ d) own_step other_step l s r k in
-      let last = alike step told (names_it d) (Related b t₀ d) own_step other_step m r r on-right in
+      let last = alike step told (names_it d) (Related b t₀ d) own_step other_step m r r on_right in
       (simp (heard_is, own_is) at first) ∙ rw e (sym (simp (heard_is, own_is) at last))
 
   reveal : bad_quotas b ≡ false → (s r s' r' : State) → Related b t₀ d s s' → Related b t₀ d r r' → Shows d s' r' → Related b t₀ d s r
@@ -140,9 +140,9 @@ module _ {b : Board} {t₀ : List ℕ} {d : ℕ} (below : d < b.domains) where
   shown : (s r s' r' : State) → Related b t₀ d s s' → Related b t₀ d r r'
       → ((c : Call) → names_it d c ≡ true → told s c ≡ told r c) → Shows d s' r'
   shown s r s' r' k l same =
-      let at-reply : (c : Call) → names_it d c ≡ true → (outcome s' c).reply ≡ (outcome r' c).reply = λ c e.
+      let at_reply : (c : Call) → names_it d c ≡ true → (outcome s' c).reply ≡ (outcome r' c).reply = λ c e.
       ap (λ (a : Told). a.reply) (sym (own_step s s' c k e).0 ∙ same c e ∙ (own_step r r' c l e).0) in
-      (at-reply (Colours d) (eq-eqb d d refl), λ p small. at-reply (Look d p) (eq-eqb d d refl))
+      (at_reply (Colours d) (eq-eqb d d refl), λ p small. at_reply (Look d p) (eq-eqb d d refl))
 
 -- the rule of the unwinding: on a board with a quota that is none, where nothing ever changes, and on any other
 abbrev Alike : ℕ → State → State → Type 0

@@ -2,7 +2,7 @@
 // board is lent as its 27 words, and recolour, take_back and set_quota alone change it; set_quota is lent the record itself.
 ghost use Rattle.std.specs.Prelude.{◌≡◌};
 ghost use Rattle.lists.specs.Naming.{With};
-ghost use Rattle.calls.specs.Calls.{Outcome, look as lookCall, fault as faultCall, release as releaseCall, colours as coloursCall, recolour as recolourCall, set_quota, listed};
+ghost use Rattle.calls.specs.Calls.{Outcome, look as look_call, fault as fault_call, release as release_call, colours as colours_call, recolour as recolour_call, set_quota, listed};
 ghost use Rattle.calls.specs.TakeBack.{take_back};
 ghost use Rattle.calls.specs.Table.{state_of};
 ghost use Rattle.marshal.specs.BoardWords.{words_left, lent_state};
@@ -22,7 +22,7 @@ pub extern "C" fn juzvanec_look(
     frame: &mut u32,
     row: &mut u32,
 ) -> u32
-    ensures { With (lookCall (lent_state board.now table.now) domain page) (λ (o : Outcome).
+    ensures { With (look_call (lent_state board.now table.now) domain page) (λ (o : Outcome).
         (result ≡ number_of o.reply)
         × (mapped.new ≡ value_of second_in o.reply)
         × (frame.new ≡ value_of number_in o.reply)
@@ -46,7 +46,7 @@ pub extern "C" fn juzvanec_fault(
     frame: &mut u32,
     row: &mut u32,
 ) -> u32
-    ensures { With (faultCall (lent_state board.now table.old) domain page) (λ (o : Outcome).
+    ensures { With (fault_call (lent_state board.now table.old) domain page) (λ (o : Outcome).
         (result ≡ number_of o.reply)
         × (is_new.new ≡ value_of second_in o.reply)
         × (frame.new ≡ value_of number_in o.reply)
@@ -70,7 +70,7 @@ pub extern "C" fn juzvanec_release(
     frame: &mut u32,
     row: &mut u32,
 ) -> u32
-    ensures { With (releaseCall (lent_state board.now table.old) domain page) (λ (o : Outcome).
+    ensures { With (release_call (lent_state board.now table.old) domain page) (λ (o : Outcome).
         (result ≡ number_of o.reply)
         × (frame.new ≡ value_of number_in o.reply)
         × (row.new ≡ row_of o.reply)
@@ -92,7 +92,7 @@ pub extern "C" fn juzvanec_colours(
     quota: &mut u32,
     row: &mut u32,
 ) -> u32
-    ensures { With (coloursCall (lent_state board.now table.now) domain) (λ (o : Outcome).
+    ensures { With (colours_call (lent_state board.now table.now) domain) (λ (o : Outcome).
         (result ≡ number_of o.reply)
         × (set.new ≡ value_of number_in o.reply)
         × (quota.new ≡ value_of second_in o.reply)
@@ -117,7 +117,7 @@ pub extern "C" fn juzvanec_recolour(
     count: &mut u32,
     row: &mut u32,
 ) -> u32
-    ensures { With (recolourCall (lent_state board.old table.old) domain set moves.old) (λ (o : Outcome).
+    ensures { With (recolour_call (lent_state board.old table.old) domain set moves.old) (λ (o : Outcome).
         (result ≡ number_of o.reply)
         × (count.new ≡ value_of number_in o.reply)
         × (row.new ≡ row_of o.reply)

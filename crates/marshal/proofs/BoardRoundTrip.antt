@@ -44,11 +44,11 @@ board_back b g a q =
     let l : List ℕ = b.grants ++ r in
     let m : length r ≡ 16 = simp length-append (omega arith) in
     let n : length l ≡ 24 = simp length-append (omega arith) in
-    let after-grants : drop 8 l ≡ r = drop_at b.grants r 8 g in
+    let after_grants : drop 8 l ≡ r = drop_at b.grants r 8 g in
     let grants : words_from 0 8 l ≡ b.grants = sym (taken l 8 0 (omega arith)) ∙ take_at b.grants r 8 g in
     let active : words_from 8 8 l ≡ b.active =
-    sym (taken l 8 8 (omega arith)) ∙ ap (λ (ws : List ℕ). take 8 ws) after-grants ∙ take_at b.active b.quotas 8 a in
-    let last : drop 16 l ≡ b.quotas = sym (drop-drop 8 8 l) ∙ ap (λ (ws : List ℕ). drop 8 ws) after-grants ∙ drop_at b.active b.quotas 8 a in
+    sym (taken l 8 8 (omega arith)) ∙ ap (λ (ws : List ℕ). take 8 ws) after_grants ∙ take_at b.active b.quotas 8 a in
+    let last : drop 16 l ≡ b.quotas = sym (drop-drop 8 8 l) ∙ ap (λ (ws : List ℕ). drop 8 ws) after_grants ∙ drop_at b.active b.quotas 8 a in
     let quotas : words_from 16 8 l ≡ b.quotas = sym (taken l 8 16 (omega arith)) ∙ ap (λ (ws : List ℕ). take 8 ws) last ∙ take_all 8 b.quotas (omega arith) in
     λ j. record { colours = b.colours; frames = b.frames; domains = b.domains; grants = grants j; active = active j; quotas = quotas j }
 

@@ -6,7 +6,7 @@ ghost use Rattle.board.specs.Paper.{paper_checked};
 ghost use Rattle.tally.specs.Lanes.{sum_lanes};
 ghost use Rattle.table_words.specs.Sets.{masked_in};
 ghost use Rattle.calls.specs.Table.{state_of};
-ghost use Rattle.calls.specs.Calls.{recolour as recolourCall, with_active, listed};
+ghost use Rattle.calls.specs.Calls.{recolour as recolour_call, with_active, listed};
 ghost use Rattle.choice.specs.LaneSums.{side_of};
 ghost use Rattle.moves.specs.Paper.{paper_moved};
 ghost use Rattle.moves.specs.Steps.{set_reply, weighed};
@@ -76,10 +76,10 @@ pub fn recolour(
     set: u32,
     moves: &mut [u16],
 ) -> Recoloured
-    ensures answer_value { paper_moved result.answer ≡ (recolourCall (state_of board table.old) domain set moves.old).reply }
-    ensures board_value { result.board ≡ (recolourCall (state_of board table.old) domain set moves.old).next.board }
-    ensures table_after { table.new ≡ (recolourCall (state_of board table.old) domain set moves.old).next.table }
-    ensures moves_after { moves.new ≡ listed (recolourCall (state_of board table.old) domain set moves.old).moves moves.old }
+    ensures answer_value { paper_moved result.answer ≡ (recolour_call (state_of board table.old) domain set moves.old).reply }
+    ensures board_value { result.board ≡ (recolour_call (state_of board table.old) domain set moves.old).next.board }
+    ensures table_after { table.new ≡ (recolour_call (state_of board table.old) domain set moves.old).next.table }
+    ensures moves_after { moves.new ≡ listed (recolour_call (state_of board table.old) domain set moves.old).moves moves.old }
 {
     if let Checked::Refused(refusal) = check_set(board, table.len(), domain, set) {
         return Recoloured {

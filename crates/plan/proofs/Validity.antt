@@ -44,14 +44,14 @@ tested b reload vcpus tasks room e =
     let twenty : List Test = each n 20 (shares_colour tasks) in
     let first = passed_first (test 15 (bad_vcpu_words reload (length vcpus))) _ (answers_passed (plan_tests b reload vcpus tasks room) tt tt e).0 in
     let second = passed_first (test 16 (bad_task_words (vcpu_rows vcpus) (length tasks) room)) _ first.1 in
-    let from-18 = passed_later seventeen (eighteen ++ (nineteen ++ twenty)) second.1 in
-    let from-19 = passed_later eighteen (nineteen ++ twenty) from-18 in
+    let from_18 = passed_later seventeen (eighteen ++ (nineteen ++ twenty)) second.1 in
+    let from_19 = passed_later eighteen (nineteen ++ twenty) from_18 in
     record {
       vcpu_words = first.0;
       task_words = second.0;
       vcpu_rows_lem = each_passed 17 (bad_vcpu b vcpus) (vcpu_rows vcpus) (passed_earlier seventeen (eighteen ++ (nineteen ++ twenty)) second.1);
-      task_rows_lem = each_passed 18 (bad_task b vcpus tasks) n (passed_earlier eighteen (nineteen ++ twenty) from-18);
-      order = each_passed 19 (bad_order tasks) n (passed_earlier nineteen twenty from-19);
+      task_rows_lem = each_passed 18 (bad_task b vcpus tasks) n (passed_earlier eighteen (nineteen ++ twenty) from_18);
+      order = each_passed 19 (bad_order tasks) n (passed_earlier nineteen twenty from_19);
     }
 
 ranged : (limit x : ℕ) → zero_or_above limit x ≡ false → (1 ≤ x) × (x ≤ limit)

@@ -3,8 +3,8 @@
 ghost use Rattle.std.specs.Prelude.{◌≡◌, ◌+◌, ◌*◌};
 ghost use Rattle.std.specs.Int.Bits.{bit_and};
 ghost use Rattle.std.specs.Int.Count.{ones};
-ghost use Rattle.rows.specs.RowWords.{colour_set, cost as costOf};
-ghost use Rattle.rows.specs.Reload.{planned_row, charges as chargesOf};
+ghost use Rattle.rows.specs.RowWords.{colour_set, cost as cost_of};
+ghost use Rattle.rows.specs.Reload.{planned_row, charges as charges_of};
 
 use crate::TASK_SET;
 use crate::words::{cost, task_word};
@@ -19,7 +19,7 @@ fn reloaded(tasks: &[u32], row: u32, held: u32) -> u32
 // An arrival of a task, where the tasks that it makes reload hold these colours: its cost, and the reload
 // of each colour that it holds too.
 fn charge(reload: u32, tasks: &[u32], row: u32, held: u32) -> u64
-    ensures { result ≡ costOf tasks.now row + reload * ones (bit_and (colour_set tasks.now row) held) }
+    ensures { result ≡ cost_of tasks.now row + reload * ones (bit_and (colour_set tasks.now row) held) }
 {
     cost(tasks, row) as u64 + reload as u64 * (reloaded(tasks, row, held) as u64)
 }
@@ -33,7 +33,7 @@ fn planned(i: u32) -> u32
 
 // The charges of the rows before row i; 0 past them, and for a row past the 32nd.
 pub fn charges(reload: u32, tasks: &[u32], i: u32) -> [u64; 32]
-    ensures { result ≡ chargesOf reload tasks.now i }
+    ensures { result ≡ charges_of reload tasks.now i }
 {
     let mut found = [0u64; 32];
     let mut j = planned(i);

@@ -1,7 +1,7 @@
 // Words of the rows: document 01, VCPU rows of four words and task rows of twenty. The count of ones
 // in a task's set picks its cost.
 ghost use Rattle.std.specs.Prelude.{◌≡◌, get_or};
-ghost use Rattle.rows.specs.RowWords.{vcpu_word, task_word, cost as costOf};
+ghost use Rattle.rows.specs.RowWords.{vcpu_word, task_word, cost as cost_of};
 
 use crate::{TASK_SET, TASK_WORDS, VCPU_WORDS};
 
@@ -28,7 +28,7 @@ pub fn task_word(tasks: &[u32], row: u32, k: u32) -> u32
 // The cost of a task with the colours that it holds. A set without a colour gives 0, which is the word
 // of the set itself; k colours above 16 give word k - 17 of the next row, or 0 beyond the list.
 pub fn cost(tasks: &[u32], row: u32) -> u32
-    ensures { result ≡ costOf tasks.now row }
+    ensures { result ≡ cost_of tasks.now row }
 {
     let k = u32::count_ones(task_word(tasks, row, TASK_SET));
     task_word(tasks, row, TASK_SET + k)

@@ -89,10 +89,10 @@ module _ (t : List ℕ) (n d c : ℕ) (most : length t ≤ most_frames) where
         let lv = old h.0 in
         let lg : g < length once = rw (length-set marks v 1) (new h.0) in
         let was = unmarked marks v lv g b.1 in
-        let on-g = any_fewer (is_marked both) (eqb g) (λ x u. (unmarked once g lg x u).0) fs r.1 in
-        let on-v = any_fewer (is_marked both) (eqb v) (λ x u. (unmarked marks v lv x (unmarked once g lg x u).1).0) fs r.1 in
-        let on-marks = any_fewer (is_marked both) (is_marked marks) (λ x u. (unmarked marks v lv x (unmarked once g lg x u).1).1) fs r.1 in
-        rw (h.0, q.0, was.0, on-v, on-g, q.1, h.1, was.1, on-marks) refl
+        let on_g = any_fewer (is_marked both) (eqb g) (λ x u. (unmarked once g lg x u).0) fs r.1 in
+        let on_v = any_fewer (is_marked both) (eqb v) (λ x u. (unmarked marks v lv x (unmarked once g lg x u).1).0) fs r.1 in
+        let on_marks = any_fewer (is_marked both) (is_marked marks) (λ x u. (unmarked marks v lv x (unmarked once g lg x u).1).1) fs r.1 in
+        rw (h.0, q.0, was.0, on_v, on_g, q.1, h.1, was.1, on_marks) refl
 
     back : (later : Bool)
         → (bad || later || (any_of (eqb v) (g ∷ fs) || (any_of (eqb g) fs || twice fs)) || any_of (is_marked marks) (v ∷ g ∷ fs)) ≡ false
@@ -108,10 +108,10 @@ module _ (t : List ℕ) (n d c : ℕ) (most : length t ≤ most_frames) where
         let og = neither (any_of (eqb g) fs) (twice fs) o.1 in
         let lv = old h.0 in
         let lg : g < length once = rw (length-set marks v 1) (new h.0) in
-        let on-g = still_unmarked marks v lv g ov.0 mg.0 in
+        let on_g = still_unmarked marks v lv g ov.0 mg.0 in
         let on_both =
         any_three (eqb v) (eqb g) (is_marked marks) (is_marked both) (λ x p q r. still_unmarked once g lg x q (still_unmarked marks v lv x p r)) fs ov.1 og.0 mg.1 in
-        rw (h.0, mv.0, on-g, h.1, og.1, on_both) refl
+        rw (h.0, mv.0, on_g, h.1, og.1, on_both) refl
 
   pub by_marks : (ms : List Move) (marks : List ℕ) → most_frames ≡ length marks → wrong_from t n d c marks ms ≡ wrong marks ms
   unfolding wrong_from any_move frames_named twice

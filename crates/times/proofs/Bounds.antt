@@ -46,15 +46,15 @@ need_added own period charged m n t sum term ho ht hm hn few e f =
     (added, omega (arith, added, b, mul-le-mul_left (m + 1) (mul-le-mul_right 1160000 ht)))
 
 -- what a search of a task keeps, its cost and the charges of the rows before it, gives its need
-module _ (reload : ℕ) (part : List ℕ) (i own : ℕ) (charged : List ℕ) (own_is : own ≡ cost part i) (charged-is : charged ≡ charges reload part i) where
+module _ (reload : ℕ) (part : List ℕ) (i own : ℕ) (charged : List ℕ) (own_is : own ≡ cost part i) (charged_is : charged ≡ charges reload part i) where
   pub kept_le : reload ≤ 10000 → Tasks part → i < task_rows part → (j : ℕ) → j < i → get_or charged j 0 ≤ 1160000
   kept_le h rows here j l =
-      rw (charged-is, charge_kept reload part i (omega (arith, rows.few)) j l) (charge_le reload part i j h (rows.row j (omega arith)))
+      rw (charged_is, charge_kept reload part i (omega (arith, rows.few)) j l) (charge_le reload part i j h (rows.row j (omega arith)))
 
   pub kept_need : (t : ℕ) → i < 32 → need own (task_period part) (λ (j : ℕ). get_or charged j 0) i t ≡ task_need reload part i t
   unfolding task_need
   kept_need t few =
-      rw (own_is, charged-is)
+      rw (own_is, charged_is)
       (need_same (cost part i) (task_period part) (task_period part) (arrival_charge reload part i) (λ (j : ℕ). get_or (charges reload part i) j 0) i t
       (λ j l. (refl, charge_kept reload part i few j l)))
 

@@ -1,6 +1,5 @@
 // What the programs that answer vectors share: words.rt reads their input, hash.rt has the hash by which
-// they compare lists, and lines.rt writes their lines. The loop over the cases stands in each `main`, since
-// a function cannot be handed to another.
+// they compare lists, and lines.rt writes their lines. The loop over the cases stands in each `main`.
 #![tactic(auto)]
 
 mod hash;

@@ -3,7 +3,7 @@ use mathlib.Core.Path.{ap, ◌∙◌}
 use Rattle.refusal.specs.Reply.{Reply}
 use Rattle.board.specs.declared.Board.{Board}
 use Rattle.calls.specs.Table.{state_of}
-use Rattle.calls.specs.Calls.{Answer, Outcome, with_active, recolour as recolourCall, listed}
+use Rattle.calls.specs.Calls.{Answer, Outcome, with_active, recolour as recolour_call, listed}
 use Rattle.marshal.specs.BoardWords.{board_of, words_after}
 use Rattle.marshal.specs.Replies.{number_in, second_in}
 use Rattle.marshal.proofs.BoardRoundTrip.{words_left_lem}
@@ -13,7 +13,7 @@ use Rattle.juzvanec.proofs.table.juzvanec_recolour.Goals as goal
 pub returns : goal.returns
 returns c =
     let a = c.args in
-    let on : Board → Outcome = λ b. recolourCall (state_of b a.table.now) a.domain a.set a.moves.now in
+    let on : Board → Outcome = λ b. recolour_call (state_of b a.table.now) a.domain a.set a.moves.now in
     let same = ap on c.board_of.ensures in
     let done = c.recolour-done.ensures in
     let reply = done.answer_value ∙ ap (λ (o : Outcome). o.reply) same in
