@@ -1,28 +1,27 @@
 -- Instances of the domain rule and of what else holds of histories and of every call: on eight domains, and on document 01's example board.
-use Prim.Native.Nat.{ℕ, zero, suc, ◌+◌, ◌*◌, ◌<◌, ◌≤◌}
-use native.Mathlib.Nat.{lt_irrefl, not-suc-le-zero, le_of_suc-le-suc}
+use Prim.Native.Nat.{ℕ, zero, suc, ◌<◌}
+use native.Mathlib.Nat.{not-suc-le-zero, le_of_suc-le-suc}
 use native.Mathlib.Omega.{arith}
-use mathlib.Core.Bool.{Bool, true, false, false≢true}
+use mathlib.Core.Bool.{Bool, true, false≢true}
 use mathlib.Core.List.{List, [], ◌∷◌}
 use mathlib.Core.Logic.{◌↔◌}
 use mathlib.Core.Path.{◌≡◌, refl, ap}
 use lib.Dec.{eqb}
-use lib.ListN.{replicate}
 use Rattle.lists.specs.Range.{from, keep, any_of, lowest_from, is_fewest, fewest}
 use Rattle.refusal.specs.declared.RowNames.TheVariants.{Nothing}
 use Rattle.refusal.specs.Reply.{Reply, Refuses, each, unless}
 use Rattle.refusal.specs.Rows.{row_names}
 use Rattle.colours.specs.Sets.{is_colour_set, has}
-use Rattle.colours.specs.Cache.{is_colour_count, cache_reply, colour_of, page_of, cache_set}
+use Rattle.colours.specs.Cache.{is_colour_count, cache_reply}
 use Rattle.colours.specs.Pages.{layout_reply, bleach_reply}
 use Rattle.board.specs.declared.Board.{Board}
 use Rattle.board.specs.Tests.{grant, active_set, quota, bad_quotas, domain_tests, board_tests, state_tests, call_tests}
 use Rattle.calls.specs.Table.{State, state_of, word, is_of, in_set, frames_with, mapped_to, frees, frames_held}
 use Rattle.calls.specs.FrameChoice.{in_colour, next_colour, next_frame, taken, choices}
-use Rattle.calls.specs.Calls.{Answer, settle, called, look, fault, release, colours, set_quota, with_active}
+use Rattle.calls.specs.Calls.{Answer, settle, called, look, fault, set_quota, with_active}
 use Rattle.plan.specs.Tests.{plan_tests}
 use Rattle.admission.specs.Admission.{admission_reply, judged}
-use Rattle.isolation.specs.DomainRule.{Call, Fault, outcome, run, own, lent, told, answers, LookTheSame, SameMap}
+use Rattle.isolation.specs.DomainRule.{Fault, outcome, run, own, told, answers, LookTheSame, SameMap}
 use Rattle.isolation.specs.Accounts.{OneFrameAPage}
 use Rattle.report.specs.Report.{extent_reply, verdict}
 use Rattle.examples.specs.Example.{same_list, numbers}
