@@ -27,10 +27,10 @@ EachFirst s d c (m ∷ ms) =
 
 -- The moves of the strays from frame i on: the words outside the set are still those of table t₀ there
 module _ (b : Board) (d c : ℕ) (coloured : 0 < b.colours) (t₀ : List ℕ) where
-  abbrev outside : List ℕ → ℕ → Type 0
-  outside t i = (f : ℕ) → i ≤ f → in_set b.colours c f ≡ false → word t f ≡ word t₀ f
+  abbrev Outside : List ℕ → ℕ → Type 0
+  Outside t i = (f : ℕ) → i ≤ f → in_set b.colours c f ≡ false → word t f ≡ word t₀ f
 
-  each_first : (k i : ℕ) (t : List ℕ) → length t ≡ b.frames → outside t i
+  each_first : (k i : ℕ) (t : List ℕ) → length t ≡ b.frames → Outside t i
       → length (keep (is_stray t₀ b.colours d c) (from i k)) ≤ length (choices (state_of b t) d c)
       → EachFirst (state_of b t) d c (pair_up d t₀ (keep (is_stray t₀ b.colours d c) (from i k)) (choices (state_of b t) d c))
   unfolding keep from pair_up
@@ -45,7 +45,7 @@ module _ (b : Board) (d c : ℕ) (coloured : 0 < b.colours) (t₀ : List ℕ) wh
       let next = move_by_move s d c i coloured long (rw (same i (le_refl i) out) e) some in
       let in_set_lem = (first s d c coloured some).choice.inside in
       let u : List ℕ = set (set t i 0) g (word t i) in
-      let still : outside u (suc i) = λ f l o.
+      let still : Outside u (suc i) = λ f l o.
       get_or-set_other (set t i 0) g f (word t i) 0 (λ z. true≢false (sym in_set_lem ∙ rw (← z) o))
       ∙ get_or-set_other t i f 0 0 (λ z. lt_irrefl i (omega arith))
       ∙ same f (omega arith) o in
