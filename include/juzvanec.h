@@ -64,7 +64,7 @@ extern "C" {
  * memset. Each is the most that was measured on the largest boards and plans, rounded up to a multiple of 256.
  */
 #define JUZVANEC_STACK_RECOLOUR 9216u  /* juzvanec_recolour */
-#define JUZVANEC_STACK_TAKE_BACK 4608u /* juzvanec_take_back */
+#define JUZVANEC_STACK_TAKE_BACK 4864u /* juzvanec_take_back */
 #define JUZVANEC_STACK_ADMIT 4864u     /* juzvanec_admit */
 #define JUZVANEC_STACK_OTHERS 1536u    /* any other function */
 

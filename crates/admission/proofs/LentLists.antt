@@ -1,20 +1,19 @@
 -- The lent lists after admission: the times and the rounds of all rows in their fronts where the plan is admitted, and the lists as they were where it is refused.
-use Prim.Native.Nat.{ℕ, ◌+◌, ◌≤◌}
+use Prim.Native.Nat.{ℕ, ◌+◌}
 use native.Mathlib.Nat.{zero-add}
-use native.Mathlib.Omega.{arith}
 use mathlib.Core.List.{List, ◌++◌, map}
-use mathlib.Core.Path.{◌≡◌, sym, ap, ◌∙◌}
+use mathlib.Core.Path.{◌≡◌, refl, sym, ap, ◌∙◌}
 use lib.ListN.{length, take, drop, length-append}
 use Rattle.lists.specs.Range.{upto}
-use Rattle.lists.proofs.Searches.{sought_le}
 use Rattle.lists.proofs.WrittenLists.{length-table}
 use Rattle.refusal.specs.Reply.{Reply, Answers, Refuses}
 use Rattle.board.specs.declared.Board.{Board}
 use Rattle.rows.specs.RowWords.{vcpu_rows, task_rows}
-use Rattle.times.specs.FirstTime.{Time}
 use Rattle.times.specs.Times.{task_time, vcpu_time}
 use Rattle.times.specs.Rounds.{task_rounds, vcpu_rounds}
-use Rattle.admission.specs.Admission.{is_late, microseconds, room_of, admission_reply, vcpu_times, task_times, all_times, all_rounds, leaving, judged_by, judged}
+use Rattle.admission.specs.Admission.{microseconds, room_of, admission_reply, vcpu_times, task_times, all_times, all_rounds, leaving, judged_by, judged}
+use Rattle.std.specs.Prelude.{None}
+use Rattle.admission.specs.declared.row_times.RowTimes.{RowTimes}
 use Rattle.admission.specs.RowTimes.{Recorded, Timed}
 
 -- by a reply of admission
@@ -34,11 +33,6 @@ pub refused : (reload : ℕ) (vcpus tasks times rounds : List ℕ) (reply : Repl
     → leaving (Refuses n r) times rounds ≡ judged_by reply reload vcpus tasks times rounds
 refused reload vcpus tasks times rounds reply n r e = rw e
 
--- no row was late
-whole : {time : ℕ → Time} {taken : ℕ → ℕ} {n first row : ℕ} {known known-rounds found rounds : List ℕ}
-    → Timed time taken n first known known-rounds row found rounds → n ≤ row → row ≡ n
-whole {time} {taken} {n} t h = omega (arith, t.late, sought_le (λ (i : ℕ). is_late (time i)) 0 n (omega arith))
-
 pub length-vcpu_times : (vcpus : List ℕ) → length (vcpu_times vcpus) ≡ vcpu_rows vcpus
 unfolding vcpu_times
 length-vcpu_times vcpus = length-table (λ (i : ℕ). microseconds (vcpu_time vcpus i)) (vcpu_rows vcpus) 0
@@ -48,9 +42,9 @@ unfolding task_times
 length-task_times reload vcpus tasks = length-table (λ (j : ℕ). microseconds (task_time reload vcpus tasks j)) (task_rows tasks) 0
 
 -- the numbers of the VCPUs, and after them those of the tasks
-both_kept : {f g : ℕ → ℕ} {v n i j : ℕ} {blank known kept : List ℕ} → Recorded f 0 blank i known → i ≡ v → Recorded g v known j kept → j ≡ n
+both_kept : {f g : ℕ → ℕ} {v n : ℕ} {blank known kept : List ℕ} → Recorded f 0 blank v known → Recorded g v known n kept
     → take (v + n) kept ≡ map f (upto v) ++ map g (upto n)
-both_kept {v = v} k l m h = rw (h, rw (l, zero-add v) at k.front) at m.front
+both_kept {v = v} k m = rw (rw (zero-add v) at k.front) at m.front
 
 module _ (reload : ℕ) (vcpus tasks : List ℕ) where
   pub length-times : length (all_times reload vcpus tasks) ≡ vcpu_rows vcpus + task_rows tasks
@@ -64,10 +58,9 @@ module _ (reload : ℕ) (vcpus tasks : List ℕ) where
       length-append (map (vcpu_rounds vcpus) (upto (vcpu_rows vcpus))) (map (task_rounds reload vcpus tasks) (upto (task_rows tasks)))
       ∙ rw (length-table (vcpu_rounds vcpus) (vcpu_rows vcpus) 0, length-table (task_rounds reload vcpus tasks) (task_rows tasks) 0)
 
-  pub all_found : {i j : ℕ} {blank blank-rounds known known-rounds found rounds : List ℕ}
-      → Timed (vcpu_time vcpus) (vcpu_rounds vcpus) (vcpu_rows vcpus) 0 blank blank-rounds i known known-rounds → vcpu_rows vcpus ≤ i
-      → Timed (task_time reload vcpus tasks) (task_rounds reload vcpus tasks) (task_rows tasks) (vcpu_rows vcpus) known known-rounds j found rounds → task_rows tasks ≤ j
-      → (take (vcpu_rows vcpus + task_rows tasks) found ≡ all_times reload vcpus tasks) × (take (vcpu_rows vcpus + task_rows tasks) rounds ≡ all_rounds reload vcpus tasks)
+  pub all_found : {blank known found : RowTimes}
+      → Timed (vcpu_time vcpus) (vcpu_rounds vcpus) (vcpu_rows vcpus) 0 blank None known
+      → Timed (task_time reload vcpus tasks) (task_rounds reload vcpus tasks) (task_rows tasks) (vcpu_rows vcpus) known None found
+      → (take (vcpu_rows vcpus + task_rows tasks) found.times ≡ all_times reload vcpus tasks) × (take (vcpu_rows vcpus + task_rows tasks) found.rounds ≡ all_rounds reload vcpus tasks)
   unfolding all_times all_rounds vcpu_times task_times
-  all_found v l t m =
-      (both_kept v.times (whole v l) t.times (whole t m), both_kept v.counts (whole v l) t.counts (whole t m))
+  all_found v t = (both_kept (v.times refl) (t.times refl), both_kept (v.counts refl) (t.counts refl))

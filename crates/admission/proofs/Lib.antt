@@ -3,3 +3,4 @@ pub mod RefusalOrder
 pub mod CoreVcpus
 pub mod RowLoops
 pub mod LentLists
+pub mod RoundSearches

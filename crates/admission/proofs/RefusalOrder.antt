@@ -1,12 +1,13 @@
 -- The order of refusals in admission: the board's, then the plan's, then late VCPUs, then late tasks.
-use Rattle.std.specs.Prelude.{if◌then◌else◌}
+use Rattle.std.specs.Prelude.{Some, None, if◌then◌else◌}
 use Prim.Native.Nat.{ℕ}
-use mathlib.Core.List.{List, [], append-nil}
-use mathlib.Core.Path.{◌≡◌, ◌∙◌}
+use mathlib.Core.Bool.{Bool}
+use mathlib.Core.List.{List, [], ◌++◌, append-nil}
+use mathlib.Core.Path.{◌≡◌, sym, ap, ◌∙◌}
 use lib.Dec.{ltb}
-use Rattle.lists.specs.Range.{lowest}
-use Rattle.refusal.specs.Reply.{Answers, Refuses, each, unless}
-use Rattle.refusal.proofs.Order.{unless_refused, unless_passed, unless_each}
+use Rattle.lists.specs.Range.{lowest, lowest_below}
+use Rattle.refusal.specs.Reply.{Answers, Refuses, Test, each, unless}
+use Rattle.refusal.proofs.Order.{unless_refused, unless_passed, unless_each, refused_lowest, passed_lowest}
 use Rattle.board.specs.declared.Board.{Board}
 use Rattle.board.specs.Tests.{board_tests, board_reply}
 use Rattle.rows.specs.RowWords.{vcpu_rows, task_rows}
@@ -45,3 +46,31 @@ module _ (reload : ℕ) (vcpus tasks : List ℕ) where
   time_reply =
       let late = each (task_rows tasks) 22 (λ (j : ℕ). is_late (task_time reload vcpus tasks j)) in
       rw (unless_each (vcpu_rows vcpus) 21 _ late (tt {0}), ← append-nil late, unless_each (task_rows tasks) 22 _ [] (tt {0}))
+
+  -- the first late row of each kind, if one is
+  abbrev late_vcpu : ℕ → Bool
+  late_vcpu i = is_late (vcpu_time vcpus i)
+
+  abbrev late_task : ℕ → Bool
+  late_task j = is_late (task_time reload vcpus tasks j)
+
+  abbrev twenty_two : List Test
+  twenty_two = each (task_rows tasks) 22 late_task
+
+  pub vcpu_refused : {i : ℕ} → lowest_below late_vcpu (vcpu_rows vcpus) ≡ Some i → unless {A = Unit {0}} (time_tests reload vcpus tasks) tt ≡ Refuses 21 i
+  unfolding time_tests
+  vcpu_refused e = refused_lowest (vcpu_rows vcpus) 21 late_vcpu twenty_two (tt {0}) e
+
+  module _ (in_time : lowest_below late_vcpu (vcpu_rows vcpus) ≡ None) where
+    no_vcpu : unless {A = Unit {0}} (time_tests reload vcpus tasks) tt ≡ unless (twenty_two ++ []) tt
+    unfolding time_tests
+    no_vcpu =
+        passed_lowest (vcpu_rows vcpus) 21 late_vcpu twenty_two (tt {0}) in_time
+        ∙ ap (λ (ts : List Test). unless ts tt) (sym (append-nil twenty_two))
+
+    pub task_refused : {j : ℕ} → lowest_below late_task (task_rows tasks) ≡ Some j → unless {A = Unit {0}} (time_tests reload vcpus tasks) tt ≡ Refuses 22 j
+    task_refused e = no_vcpu ∙ refused_lowest (task_rows tasks) 22 late_task [] (tt {0}) e
+
+    pub none_late : lowest_below late_task (task_rows tasks) ≡ None → unless {A = Unit {0}} (time_tests reload vcpus tasks) tt ≡ Answers tt
+    unfolding unless
+    none_late e = no_vcpu ∙ passed_lowest (task_rows tasks) 22 late_task [] (tt {0}) e

@@ -4,14 +4,17 @@ use native.Mathlib.Nat.{add-zero}
 use native.Mathlib.Omega.{arith}
 use mathlib.Core.Bool.{Bool}
 use mathlib.Core.List.{List, [], ◌∷◌, ◌++◌, map, append-nil, append_assoc}
-use mathlib.Core.Path.{◌≡◌, sym, ap, ◌∙◌}
+use mathlib.Core.Path.{◌≡◌, refl, sym, ap, ◌∙◌}
 use lib.ListN.{length, take, set, length-set}
-use Rattle.lists.specs.Range.{upto, from}
+use borrow.Author.Tests.{lt-ltb, le-ltb}
+use Rattle.std.specs.Prelude.{Some, None}
+use Rattle.lists.specs.Range.{upto, from, lowest, lowest_below}
 use Rattle.lists.proofs.RangeLoops.{Seeking, seek_start, seek_hit, seek_miss, seek_end}
 use Rattle.lists.proofs.WrittenLists.{map_next, take_next}
 use Rattle.times.specs.FirstTime.{Time, At, Late}
 use Rattle.admission.specs.Admission.{is_late, microseconds}
-use Rattle.admission.specs.RowTimes.{Recorded, Timed}
+use Rattle.admission.specs.declared.row_times.RowTimes.{RowTimes}
+use Rattle.admission.specs.RowTimes.{Roomy, Recorded, Timed}
 
 -- one word more after those of the rows passed
 module _ (number : ℕ → ℕ) (first : ℕ) (known : List ℕ) where
@@ -27,35 +30,44 @@ module _ (number : ℕ → ℕ) (first : ℕ) (known : List ℕ) where
         room = t.room ∙ sym (length-set kept k x);
       }
 
-module _ (time : ℕ → Time) (taken : ℕ → ℕ) (n first : ℕ) (known known_rounds : List ℕ) where
+module _ (time : ℕ → Time) (taken : ℕ → ℕ) (n first : ℕ) (known : RowTimes) where
   abbrev late : ℕ → Bool
   late i = is_late (time i)
 
-  pub record Timing (i : ℕ) (found rounds : List ℕ) : Type 0 where
+  pub record Timing (i : ℕ) (kept : RowTimes) : Type 0 where
     pub ahead : Seeking late 0 n i
-    pub times : Recorded (λ (k : ℕ). microseconds (time k)) first known i found
-    pub counts : Recorded taken first known_rounds i rounds
+    pub times : Recorded (λ (k : ℕ). microseconds (time k)) first known.times i kept.times
+    pub counts : Recorded taken first known.rounds i kept.rounds
 
-  pub timing_start : (found rounds : List ℕ) → take first found ≡ take first known → 48 ≡ length found
-      → take first rounds ≡ take first known_rounds → 48 ≡ length rounds → Timing 0 found rounds
-  timing_start found rounds e r e' r' =
+  pub timing_start : Roomy known → Timing 0 known
+  timing_start room =
       record {
         ahead = seek_start late 0 n (omega arith);
-        times = kept_start (λ (k : ℕ). microseconds (time k)) first known found e r;
-        counts = kept_start taken first known_rounds rounds e' r';
+        times = kept_start (λ (k : ℕ). microseconds (time k)) first known.times known.times refl room.times;
+        counts = kept_start taken first known.rounds known.rounds refl room.rounds;
       }
 
-  pub timing_next : {i : ℕ} {found rounds : List ℕ} (k x m : ℕ) → k ≡ first + i → k < 48 → Timing i found rounds → i < n → time i ≡ At x → m ≡ taken i
-      → Timing (i + 1) (set found k x) (set rounds k m)
-  timing_next k x m at h t l e c =
+  pub timing_room : {i : ℕ} {kept : RowTimes} → Timing i kept → Roomy kept
+  timing_room t = record { times = t.times.room; rounds = t.counts.room }
+
+  pub timing_next : {i : ℕ} {kept kept' : RowTimes} (k x m : ℕ) → kept'.times ≡ set kept.times k x → kept'.rounds ≡ set kept.rounds k m → k ≡ first + i → k < 48 → Timing i kept → i < n → time i ≡ At x → m ≡ taken i
+      → Timing (i + 1) kept'
+  timing_next k x m p q at h t l e c =
       record {
         ahead = seek_miss late t.ahead l (ap is_late e);
-        times = kept_next (λ (j : ℕ). microseconds (time j)) first known k x at h t.times (sym (ap microseconds e));
-        counts = kept_next taken first known_rounds k m at h t.counts c;
+        times = rw p (kept_next (λ (j : ℕ). microseconds (time j)) first known.times k x at h t.times (sym (ap microseconds e)));
+        counts = rw q (kept_next taken first known.rounds k m at h t.counts c);
       }
 
-  pub timing_late : {i : ℕ} {found rounds : List ℕ} → Timing i found rounds → i < n → time i ≡ Late → Timed time taken n first known known_rounds i found rounds
-  timing_late t l e = record { late = seek_hit late t.ahead l (ap is_late e); times = t.times; counts = t.counts }
+  pub timing_late : {i : ℕ} {kept : RowTimes} → Timing i kept → i < n → time i ≡ Late → Timed time taken n first known (Some i) kept
+  unfolding lowest_below
+  timing_late {i} t l e =
+      let here : i ≡ lowest late n = seek_hit late t.ahead l (ap is_late e) in
+      record { late_lem = rw (← here, lt-ltb i n l) refl; times = λ q. cc q; counts = λ q. cc q }
 
-  pub timing_end : {i : ℕ} {found rounds : List ℕ} → Timing i found rounds → n ≤ i → Timed time taken n first known known_rounds i found rounds
-  timing_end t l = record { late = seek_end late t.ahead l; times = t.times; counts = t.counts }
+  pub timing_end : {i : ℕ} {kept : RowTimes} → Timing i kept → n ≤ i → Timed time taken n first known None kept
+  unfolding lowest_below
+  timing_end {i} t l =
+      let end : i ≡ lowest late n = seek_end late t.ahead l in
+      let all : i ≡ n = omega (arith, t.ahead.within) in
+      record { late_lem = rw (← end, le-ltb i n l) refl; times = λ q. rw all at t.times; counts = λ q. rw all at t.counts }

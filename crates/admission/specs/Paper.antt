@@ -1,15 +1,7 @@
--- The answers of this crate's functions in document 01's words: a time or late, and admitted or the refusal's number and row.
-use Rattle.refusal.specs.Reply.{Reply, Answers, Refuses}
+-- The answer of a search in document 01's words: a time, or late.
+use Rattle.std.specs.Prelude.{ℕ, Option, Some, None}
 use Rattle.times.specs.FirstTime.{Time, At, Late}
-use Rattle.admission.specs.declared.Admission.{Admission}
-use Rattle.admission.specs.declared.Admission.TheVariants.{Admitted, Refused}
-use Rattle.admission.specs.declared.search.Found.{Found}
-use Rattle.admission.specs.declared.search.Found.TheVariants.{At as FoundAt, Late as FoundLate}
 
-abbrev pub paper_found : Found → Time
-paper_found (FoundAt t) = At t
-paper_found FoundLate = Late
-
-abbrev pub paper_admission : Admission → Reply (Unit {0})
-paper_admission Admitted = Answers tt
-paper_admission (Refused r) = Refuses r.number r.row
+abbrev pub paper_found : Option ℕ → Time
+paper_found (Some t) = At t
+paper_found None = Late

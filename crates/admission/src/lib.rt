@@ -7,26 +7,21 @@ mod need;
 mod row_times;
 mod search;
 
-ghost use Rattle.std.specs.Prelude.{◌≡◌, ◌+◌, ◌≤◌, min};
+ghost use Rattle.std.specs.Prelude.{◌≡◌, ◌+◌, ◌≤◌};
 ghost use Rattle.refusal.specs.Reply.{unless};
+ghost use Rattle.refusal.specs.Numbers.{reply_of};
 ghost use Rattle.rows.specs.RowWords.{vcpu_rows, task_rows};
 ghost use Rattle.rows.specs.ValidRows.{Plan};
 ghost use Rattle.admission.specs.Admission.{time_tests, room_of, leaving, judged_by, judged};
-ghost use Rattle.admission.specs.Paper.{paper_admission};
 
-use crate::row_times::{task_times, vcpu_times, write_front};
-use board::{Board, Checked};
+use crate::row_times::RowTimes;
+use board::Board;
 use board_tests::check_board;
 use plan::check_plan;
 use refusal::Refusal;
 use rows::{TASK_WORDS, VCPU_WORDS};
 
-#[derive(Clone, Copy)]
-pub enum Admission {
-    Admitted,
-    Refused(Refusal),
-}
-
+// Kept: the lists apart and side by side in every call, as docs/guide/rattle.md names them.
 // The verdict on a plan. Admitted, one list holds the times of the VCPUs and then of the tasks, the other the
 // rounds in which they were found; refused, both are as they were.
 pub fn admit_plan(
@@ -36,23 +31,13 @@ pub fn admit_plan(
     tasks: &[u32],
     times: &mut [u32],
     rounds: &mut [u32],
-) -> Admission
-    ensures { leaving (paper_admission result) times.new rounds.new ≡ judged board reload vcpus.now tasks.now times.old rounds.old }
+) -> Result<(), Refusal>
+    ensures { leaving (reply_of result) times.new rounds.new ≡ judged board reload vcpus.now tasks.now times.old rounds.old }
 {
-    if let Checked::Refused(refusal) = check_board(board, board.frames as usize) {
-        return Admission::Refused(refusal);
-    }
-    let room = shorter(times.len(), rounds.len());
-    if let Checked::Refused(refusal) = check_plan(board, reload, vcpus, tasks, room) {
-        return Admission::Refused(refusal);
-    }
+    check_board(board, board.frames as usize)?;
+    let room = times.len().min(rounds.len());
+    check_plan(board, reload, vcpus, tasks, room)?;
     admit_rows(reload, vcpus, tasks, times, rounds)
-}
-
-fn shorter(a: usize, b: usize) -> usize
-    ensures { result ≡ min a b }
-{
-    if a < b { a } else { b }
 }
 
 // 21 and 22 of a plan that passes the rest.
@@ -62,30 +47,21 @@ fn admit_rows(
     tasks: &[u32],
     times: &mut [u32],
     rounds: &mut [u32],
-) -> Admission
+) -> Result<(), Refusal>
     requires { Plan reload vcpus.now tasks.now × (vcpu_rows vcpus.now + task_rows tasks.now ≤ room_of times.old rounds.old) }
-    ensures { leaving (paper_admission result) times.new rounds.new ≡ judged_by (unless (time_tests reload vcpus.now tasks.now) tt) reload vcpus.now tasks.now times.old rounds.old }
+    ensures { leaving (reply_of result) times.new rounds.new ≡ judged_by (unless (time_tests reload vcpus.now tasks.now) tt) reload vcpus.now tasks.now times.old rounds.old }
 {
-    let mut found = [0u32; 48];
-    let mut counts = [0u32; 48];
+    let mut found = RowTimes::none();
     let vcpu_rows = (vcpus.len() / VCPU_WORDS) as u32;
-    let late = vcpu_times(vcpus, vcpu_rows, &mut found, &mut counts);
-    if late < vcpu_rows {
-        return Admission::Refused(Refusal {
-            number: 21,
-            row: late,
-        });
+    if let Some(row) = found.vcpu_times(vcpus, vcpu_rows) {
+        return Err(Refusal::LateVcpu(row));
     }
     let task_rows = (tasks.len() / TASK_WORDS) as u32;
-    let late = task_times(reload, vcpus, tasks, vcpu_rows, &mut found, &mut counts);
-    if late < task_rows {
-        return Admission::Refused(Refusal {
-            number: 22,
-            row: late,
-        });
+    if let Some(row) = found.task_times(reload, vcpus, tasks, vcpu_rows, task_rows) {
+        return Err(Refusal::LateTask(row));
     }
     let rows = (vcpu_rows + task_rows) as usize;
-    write_front(times, &found, rows);
-    write_front(rounds, &counts, rows);
-    Admission::Admitted
+    times[..rows].copy_from_slice(&found.times[..rows]);
+    rounds[..rows].copy_from_slice(&found.rounds[..rows]);
+    Ok(())
 }

@@ -4,57 +4,44 @@
 #![tactic(auto)]
 
 use report::INPUT_BYTES;
-use std::io::{Read, Write};
+use std::io::{self, Read, Write};
 use text::TEXT_BYTES;
-
-#[derive(Clone, Copy)]
-enum Input {
-    Whole(usize),
-    Failed,
-}
 
 // Bytes after the longest plan that are read and forgotten, so that whoever writes them is not cut off.
 const MOST_FORGOTTEN: usize = 1073741824;
 
 // Reads to the end of the input, and keeps as many bytes of it as there is room for. No signal interrupts a
 // read, since the program handles none, so that each read that fails is a failure.
-fn read_input(input: &mut impl Read, kept: &mut [u8]) -> Input {
+fn read_input(input: &mut impl Read, kept: &mut [u8]) -> io::Result<usize> {
     let mut done = 0;
     while done < kept.len() {
-        let Ok(more) = input.read(&mut kept[done..]) else {
-            return Input::Failed;
-        };
+        let more = input.read(&mut kept[done..])?;
         if more == 0 {
-            return Input::Whole(done);
+            return Ok(done);
         }
         done += more;
     }
-    if read_on(input) {
-        Input::Whole(done)
-    } else {
-        Input::Failed
-    }
+    read_on(input)?;
+    Ok(done)
 }
 
 // Reads on to the end. An input that does not end is left, since a program is proved to end.
-fn read_on(input: &mut impl Read) -> bool {
+fn read_on(input: &mut impl Read) -> io::Result<()> {
     let mut rest = [0u8; 65536];
-    let mut forgotten: usize = 0;
+    let mut forgotten = 0;
     while forgotten < MOST_FORGOTTEN {
-        let Ok(more) = input.read(&mut rest) else {
-            return false;
-        };
+        let more = input.read(&mut rest)?;
         if more == 0 {
-            return true;
+            return Ok(());
         }
         forgotten += more;
     }
-    true
+    Ok(())
 }
 
 fn main(rt: HostRuntime) {
     let mut input = [0u8; INPUT_BYTES];
-    let Input::Whole(read) = read_input(&mut rt.stdin(), &mut input) else {
+    let Ok(read) = read_input(&mut rt.stdin(), &mut input) else {
         let _ = eprintln!(rt; "admit: the input could not be read");
         return;
     };
@@ -68,7 +55,6 @@ fn main(rt: HostRuntime) {
 #[cfg(test)]
 mod tests {
     use super::*;
-    use std::io;
 
     // Gives one byte a read, and then ends or fails.
     #[derive(Drop)]
@@ -94,27 +80,27 @@ mod tests {
         }
     }
 
-    fn read_slowly(left: usize, fails: bool, kept: &mut [u8]) -> Input {
+    fn read_slowly(left: usize, fails: bool, kept: &mut [u8]) -> io::Result<usize> {
         read_input(&mut Slow { left, fails }, kept)
     }
 
     #[test]
     fn short_reads_are_joined(rt: HostRuntime) {
         let mut kept = [0u8; 4];
-        assert!(rt; matches!(read_slowly(3, false, &mut kept), Input::Whole(3)));
+        assert!(rt; matches!(read_slowly(3, false, &mut kept), Ok(3)));
         assert!(rt; kept == [7, 7, 7, 0]);
     }
 
     #[test]
     fn more_than_is_kept_is_read_and_forgotten(rt: HostRuntime) {
         let mut kept = [0u8; 4];
-        assert!(rt; matches!(read_slowly(9, false, &mut kept), Input::Whole(4)));
+        assert!(rt; matches!(read_slowly(9, false, &mut kept), Ok(4)));
     }
 
     #[test]
     fn a_failure_is_no_end(rt: HostRuntime) {
         let mut kept = [0u8; 4];
-        assert!(rt; matches!(read_slowly(3, true, &mut kept), Input::Failed));
-        assert!(rt; matches!(read_slowly(9, true, &mut kept), Input::Failed));
+        assert!(rt; matches!(read_slowly(3, true, &mut kept), Err(_)));
+        assert!(rt; matches!(read_slowly(9, true, &mut kept), Err(_)));
     }
 }

@@ -1,3 +1,2 @@
--- The definitions of `board`: the tests of a board and of a call's domain, and their reply.
+-- The definitions of `board`: the tests of a board and of a call's domain.
 pub mod Tests
-pub mod Paper

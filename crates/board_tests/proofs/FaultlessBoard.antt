@@ -3,19 +3,20 @@ use Prim.Native.Nat.{ℕ, ◌+◌, ◌*◌, ◌/◌, ◌%◌, ◌^◌, ◌<◌, 
 use native.Mathlib.Nat.{lt_irrefl, max-le, le-max_left, div-mul-le_self, le-div_iff_mul-le}
 use native.Mathlib.Omega.{arith}
 use mathlib.Core.Bool.{true, false, not, ◌&&◌}
-use mathlib.Core.Path.{◌≡◌, ap, ◌∙◌}
+use mathlib.Core.Path.{◌≡◌, sym, ap, ◌∙◌}
 use lib.Arith.{bin_ind}
 use lib.Bits.{bit_and, bit_or, and_step, or_step, or_shr, or_comm, and_comm, or_add_and, and_le_r}
-use lib.Dec.{eqb, ltb}
+use lib.Dec.{eqb}
 use lib.Pow.{pow_pos}
-use borrow.Author.Tests.{eq-eqb, ne_eqb, eqb-true, eqb-false, le-ltb, not-false}
+use borrow.Author.Tests.{eq-eqb, ne_eqb, eqb-true, eqb-false, not-false}
 use Rattle.lists.proofs.CaseSplits.{cases, below_or_not, and_both, neither}
-use Rattle.lists.proofs.Searches.{none_lowest, none_any}
+use Rattle.lists.proofs.Searches.{none_any}
+use Rattle.lists.proofs.Finds.{none_found}
 use Rattle.refusal.specs.Reply.{Answers, unless}
 use Rattle.colours.specs.Sets.{is_colour_set}
 use Rattle.board.specs.declared.Board.{Board}
 use Rattle.board.specs.Tests.{grant, active_set, shares, bad_grant, shares_with_another, bad_active, domain_tests}
-use Rattle.board_tests.proofs.DomainFaults.{domain_reply}
+use Rattle.board_tests.proofs.DomainFaults.{none_refused}
 
 -- a set meets a union where it meets a part
 meets : (x a b : ℕ) → bit_and x a ≤ bit_and x (bit_or a b)
@@ -102,6 +103,4 @@ module _ (b : Board) (s : ℕ) (p : InOrderTo b b.domains s) (c : is_colour_set 
   pub in_order_reply : Answers tt ≡ unless {A = Unit {0}} (domain_tests b) tt
   in_order_reply =
       let n : ℕ = b.domains in
-      let end : ltb n n ≡ false = le-ltb n n (omega arith) in
-      rw
-      (domain_reply, none_lowest (bad_grant b) n granted, none_lowest (shares_with_another b) n not_shared, none_lowest (bad_active b) n p.sets, end)
+      sym (none_refused b (none_found (bad_grant b) n granted) (none_found (shares_with_another b) n not_shared) (none_found (bad_active b) n p.sets))

@@ -1,5 +1,6 @@
 -- Numbers of colours up to 16: that of a board is itself, and its lanes are all sixteen.
-use Rattle.std.proofs.Common.{◌≡◌, ℕ, ◌≤◌, true, ltb, List, [], ◌∷◌, refl, arith, le-ltb, lt-ltb}
+use Rattle.std.proofs.Common.{◌≡◌, ℕ, ◌-◌, ◌%◌, ◌≤◌, true, ltb, List, [], ◌∷◌, refl, arith, le-ltb, lt-ltb}
+use lib.Bits.{and_le_r}
 use Rattle.lists.specs.Range.{from, keep}
 use Rattle.lists.proofs.CaseSplits.{below_or_not}
 use Rattle.lists.proofs.Members.{member_has}
@@ -16,6 +17,10 @@ count_within n = below_or_not n 17 (λ l. rw (lt-ltb n 17 l) (omega arith)) (λ 
 pub count_itself : (n : ℕ) → is_colour_count n ≡ true → as_count n ≡ n
 unfolding as_count
 count_itself n ok = rw (lt-ltb n 17 (omega (arith, count_range n ok)))
+
+pub lanes_within : (n : ℕ) → lanes_of n ≤ 16
+unfolding lanes_of
+lanes_within n = and_le_r ((18446744073709551616 - n) % 18446744073709551616) 16
 
 all_lanes : (n : ℕ) → is_colour_count n ≡ true → lanes_of n ≡ 16
 unfolding is_colour_count lanes_of

@@ -1,5 +1,5 @@
 -- The key of a colour, by its cases; and the colour with the fewest frames held, by the least of the keys.
-use Rattle.std.proofs.Common.{◌≡◌, ℕ, ◌+◌, ◌*◌, ◌%◌, ◌<◌, ◌≤◌, Bool, true, false, ◌&&◌, ltb, List, get_or, refl, ◌∙◌, le_refl, lt_irrefl, mod-eq_of_lt, arith, ltb-true, le-ltb, lt-ltb}
+use Rattle.std.proofs.Common.{◌≡◌, ℕ, ◌+◌, ◌*◌, ◌%◌, ◌<◌, ◌≤◌, Bool, true, false, ◌&&◌, ltb, List, get_or, min, refl, ◌∙◌, le_refl, lt_irrefl, mod-eq_of_lt, arith, ltb-true, le-ltb, lt-ltb}
 use mathlib.Core.Bool.{and-false}
 use Rattle.lists.specs.Range.{fewest}
 use Rattle.lists.proofs.CaseSplits.{cases, below_or_not, and_both}
@@ -127,6 +127,12 @@ module _ (keys : List ℕ) where
           is = s.is;
           least = λ y k. below_or_not y i (λ m. s.least y m) (λ m. let z : y ≡ i = omega arith in rw z h);
         }
+
+    pub least_min : (r : ℕ) → r ≡ min low (get_or keys i 0) → LeastYet r (i + 1)
+    least_min r e =
+        below_or_not (get_or keys i 0) low
+        (λ h. let same : r ≡ get_or keys i 0 = omega (arith, e, h) in rw same (least_lower h))
+        (λ h. let same : r ≡ low = omega (arith, e, h) in rw same (least_not h))
 
   pub least_end : {low i : ℕ} → LeastYet low i → 16 ≤ i → LeastKey keys low
   least_end s l =

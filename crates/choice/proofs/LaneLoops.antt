@@ -1,6 +1,6 @@
 -- Loops over sixteen lanes: one that sums up the lanes that pass a test, and one that seeks the lowest frame that stands in the lanes of a colour. What each
 -- has still to find is settled by the lanes from the one it has come to.
-use Rattle.std.proofs.Common.{◌≡◌, ℕ, ◌+◌, ◌*◌, ◌%◌, ◌<◌, ◌≤◌, Bool, true, false, ◌&&◌, eqb, List, get_or, sym, ap, ◌∙◌, zero-le, lt_trans, le_refl, lt_irrefl, mod-eq_of_lt, arith, eq-eqb, ne_eqb, eqb-true}
+use Rattle.std.proofs.Common.{◌≡◌, ℕ, ◌+◌, ◌*◌, ◌%◌, ◌<◌, ◌≤◌, Bool, true, false, ◌&&◌, eqb, List, get_or, min, refl, sym, ap, ◌∙◌, zero-le, lt_trans, le_refl, lt_irrefl, mod-eq_of_lt, arith, eq-eqb, ne_eqb, eqb-true}
 use native.Mathlib.Nat.{add-mod_right}
 use Rattle.lists.specs.Range.{total}
 use Rattle.lists.proofs.CaseSplits.{cases, below_or_not, and_both}
@@ -138,6 +138,16 @@ module _ (n x : ℕ) (lanes : List ℕ) (l : x < n) where
             stands = s.stands;
             before = further least s (le_refl least) (λ f fl e. omega (arith, is, e, wraps, word, fl, small, h));
           }
+
+    -- the lower of the two, where the lane's number less one is taken round
+    pub frame_min :
+        {lane least : ℕ} (s : FrameSought n x lanes m lane least) (under : lane < 16) (small : m < 18446744073709551616) → get_or lanes lane 0 ≤ 65535
+        → {r : ℕ} → r ≡ min least ((get_or lanes lane 0 + 18446744073709551615) % 18446744073709551616) → FrameSought n x lanes m (lane + n) r
+    frame_min {lane} {least} s under small word {r} is =
+        let frame : ℕ = (get_or lanes lane 0 + 18446744073709551615) % 18446744073709551616 in
+        below_or_not frame least
+        (λ h. let e : r ≡ frame = omega (arith, is, h) in rw e (frame_lower s under small (get_or lanes lane 0) frame refl (omega (arith, word)) (omega arith) h))
+        (λ h. let e : r ≡ least = omega (arith, is, h) in rw e (frame_higher s under small (get_or lanes lane 0) frame refl (omega (arith, word)) (omega arith) h))
 
     pub frame_end : {lane least : ℕ} → FrameSought n x lanes m lane least → 16 ≤ lane → least ≡ free_by n m lanes x
     unfolding free_by least_lane in_lanes

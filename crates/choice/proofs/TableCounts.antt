@@ -1,6 +1,6 @@
 -- What the passes over the table of a call give: the words beyond the most frames and the bound on a first word play no part there. The sums by which a
 -- recolouring is judged, and that the keys of a fault are words.
-use Rattle.std.proofs.Common.{◌≡◌, ℕ, ◌<◌, ◌≤◌, Bool, true, false, not, ◌&&◌, eqb, List, length, get_or, sym, refl, ap, ◌∙◌, arith, take_all as take_whole, lt-ltb, eq-eqb, ne_eqb, eqb-true}
+use Rattle.std.proofs.Common.{◌≡◌, ℕ, ◌<◌, ◌≤◌, Bool, true, false, not, ◌&&◌, if◌then◌else◌, eqb, ltb, List, Option, None, Some, length, get_or, sym, refl, ap, ◌∙◌, arith, take_all as take_whole, lt-ltb, eq-eqb, ne_eqb, eqb-true}
 use borrow.Author.Tests.{eqb-false}
 use Rattle.limits.specs.Limits.{most_frames, last_first}
 use Rattle.lists.specs.Range.{upto, keep, total}
@@ -88,7 +88,9 @@ module _ (t : List ℕ) (d : ℕ) (most : length t ≤ most_frames) (low : d < 8
         omega (arith, held_is n d t ok x, keys_fit n d t ok most x l (omega (arith, h, free_is n d t ok x)))
 
     -- the frame that a fault takes
-    pub chosen_on : (lanes notes : List ℕ) → lanes ≡ held → notes ≡ free → (r : ℕ) → ByLeastKey (as_count n) m c lanes notes r → r ≡ frame_by n m c lanes notes
+    pub chosen_on :
+        (lanes notes : List ℕ) → lanes ≡ held → notes ≡ free → (r : Option ℕ) → ByLeastKey (as_count n) m c lanes notes r
+        → r ≡ (let f = frame_by n m c lanes notes in if ltb f m then Some f else None)
     chosen_on lanes notes h f r by =
         let range = count_range n ok in
         let fit : KeysFit n m (held_by n lanes) (free_by n m notes) c = rw (h, f) lanes_fit in

@@ -1,6 +1,6 @@
 -- The keys by which the code chooses a colour: document 02, No. 7. What each function gives is determined for every input; that the least key is that of the
 -- colour with the fewest frames held is a law, where the keys fit into 16 bits.
-use Rattle.std.specs.Prelude.{◌≡◌, ℕ, ◌+◌, ◌*◌, ◌%◌, ◌<◌, ◌≤◌, true, ◌&&◌, ltb, List, length, nat_lt, slice_index, if◌then◌else◌}
+use Rattle.std.specs.Prelude.{◌≡◌, ℕ, ◌+◌, ◌*◌, ◌%◌, ◌<◌, ◌≤◌, true, ◌&&◌, ltb, List, Option, None, Some, length, nat_lt, slice_index, if◌then◌else◌}
 use Rattle.lists.specs.Range.{lowest}
 use Rattle.colours.specs.Sets.{has}
 use Rattle.calls.specs.Table.{has_word}
@@ -36,11 +36,11 @@ pub record LeastOf (key : ℕ → ℕ) (r : ℕ) : Type 0 where
 abbrev pub LeastKey : List ℕ → ℕ → Type 0
 LeastKey keys r = LeastOf (λ (x : ℕ). slice_index keys x) r
 
--- the lowest free frame of the colour with the least key, or m where no key is below that of a colour without a frame
-pub record ByLeastKey (n m c : ℕ) (held free : List ℕ) (r : ℕ) : Type 0 where
+-- the lowest free frame of the colour with the least key, or none where no key is below that of a colour without a frame
+pub record ByLeastKey (n m c : ℕ) (held free : List ℕ) (r : Option ℕ) : Type 0 where
   pub key : ℕ
   pub low : LeastOf (key_of n m c (held_by n held) (free_by n m free)) key
-  pub is : r ≡ (if ltb key full_key then free_by n m free (key % 16) else m)
+  pub is : r ≡ (if ltb key full_key then Some (free_by n m free (key % 16)) else None)
 
 -- on a table: the lowest free frame of colour x, of n
 abbrev pub lowest_in : List ℕ → ℕ → ℕ → ℕ

@@ -2,4 +2,3 @@
 pub mod Sets
 pub mod Cache
 pub mod Pages
-pub mod Paper

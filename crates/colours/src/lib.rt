@@ -7,6 +7,6 @@ mod cache;
 mod pages;
 mod sets;
 
-pub use cache::{ColourCount, cache_colours, is_colour_count};
-pub use pages::{Bleached, Laid, bleach, drop_colour_bits, layout};
+pub use cache::{cache_colours, is_colour_count};
+pub use pages::{bleach, drop_colour_bits, layout};
 pub use sets::{has_colour, is_colour_set};

@@ -2,7 +2,7 @@
 // refusals 2 and 9 to 11; and bleaching by dropping colour bits.
 ghost use Rattle.std.specs.Prelude.{◌≡◌};
 ghost use Rattle.colours.specs.Pages.{layout_reply, bleach_reply, drop_bits};
-ghost use Rattle.colours.specs.Paper.{paper_laid, paper_bleached};
+ghost use Rattle.refusal.specs.Numbers.{reply_of};
 
 use crate::cache::is_colour_count;
 use crate::sets::{colour_at, has_colour, is_colour_set, place_of};
@@ -13,55 +13,47 @@ const LAST_INDEX: u32 = 0xFF_FFFF;
 
 const LAST_BLEACHED: u32 = 0xFFF_FFFF;
 
-#[derive(Clone, Copy)]
-pub enum Laid {
-    Page(u32),
-    Refused(Refusal),
-}
-
-#[derive(Clone, Copy)]
-pub enum Bleached {
-    Index(u32),
-    Refused(Refusal),
-}
+// Kept: layout and bleaching begin with the same two tests, written in each in the order in which they refuse.
 
 // The page of an index: rows of N pages, and in each row the pages of the set's colours.
-pub fn layout(colours: u32, set: u32, index: u32) -> Laid
-    ensures { paper_laid result ≡ layout_reply colours set index }
+#[tactic(auto, unfolding(crate::specs::Pages::layout_reply, refusal::specs::Reply::unless))]
+pub fn layout(colours: u32, set: u32, index: u32) -> Result<u32, Refusal>
+    ensures { reply_of result ≡ layout_reply colours set index }
 {
     if !is_colour_count(colours) {
-        return Laid::Refused(Refusal { number: 2, row: 0 });
+        return Err(Refusal::Colours);
     }
     if !is_colour_set(colours, set) {
-        return Laid::Refused(Refusal { number: 9, row: 0 });
+        return Err(Refusal::Set);
     }
     if LAST_INDEX < index {
-        return Laid::Refused(Refusal { number: 10, row: 0 });
+        return Err(Refusal::Page);
     }
-    let size = u32::count_ones(set);
+    let size = set.count_ones();
     let colour = colour_at(colours, set, index % size);
-    Laid::Page(index / size * colours + colour)
+    Ok(index / size * colours + colour)
 }
 
 // The index of a page whose colour is in the set: the way back.
-pub fn bleach(colours: u32, set: u32, page: u32) -> Bleached
-    ensures { paper_bleached result ≡ bleach_reply colours set page }
+#[tactic(auto, unfolding(crate::specs::Pages::bleach_reply, refusal::specs::Reply::unless))]
+pub fn bleach(colours: u32, set: u32, page: u32) -> Result<u32, Refusal>
+    ensures { reply_of result ≡ bleach_reply colours set page }
 {
     if !is_colour_count(colours) {
-        return Bleached::Refused(Refusal { number: 2, row: 0 });
+        return Err(Refusal::Colours);
     }
     if !is_colour_set(colours, set) {
-        return Bleached::Refused(Refusal { number: 9, row: 0 });
+        return Err(Refusal::Set);
     }
     if LAST_BLEACHED < page {
-        return Bleached::Refused(Refusal { number: 10, row: 0 });
+        return Err(Refusal::Page);
     }
     let colour = page % colours;
     if !has_colour(set, colour) {
-        return Bleached::Refused(Refusal { number: 11, row: 0 });
+        return Err(Refusal::OtherColour);
     }
-    let size = u32::count_ones(set);
-    Bleached::Index(page / colours * size + place_of(set, colour))
+    let size = set.count_ones();
+    Ok(page / colours * size + place_of(set, colour))
 }
 
 // A page number without those of its colour bits, the lowest `bits`, that lie above the lowest

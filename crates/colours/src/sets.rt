@@ -28,24 +28,23 @@ pub(crate) fn place_of(set: u32, colour: u32) -> u32
     ensures { result ≡ place_of set colour }
 {
     let below = (1 << colour) - 1;
-    u32::count_ones(set & below)
+    (set & below).count_ones()
 }
 
+// Kept: 0 and no Option where there is none, as the definition `colour_at` has it.
 // The colour at a place, or 0 where the set has no such place.
 pub(crate) fn colour_at(colours: u32, set: u32, place: u32) -> u32
     requires { colours ≤ 32 }
     ensures { result ≡ colour_at colours set place }
 {
     let mut left = place;
-    let mut colour = 0;
-    while colour < colours {
+    for colour in 0..colours {
         if has_colour(set, colour) {
             if left == 0 {
                 return colour;
             }
             left -= 1;
         }
-        colour += 1;
     }
     0
 }

@@ -9,5 +9,5 @@ mod mapping;
 mod quotas;
 
 pub use active::{ActiveColours, colours};
-pub use mapping::{Faulted, Looked, Released, fault, look, release};
-pub use quotas::{Asked, QuotaSet, ask_quota, set_quota};
+pub use mapping::{Faulted, fault, look, release};
+pub use quotas::{Asked, ask_quota, set_quota};

@@ -6,7 +6,7 @@ ghost use Rattle.colours.specs.Cache.{cache_reply};
 ghost use Rattle.colours.specs.Pages.{layout_reply, bleach_reply};
 ghost use Rattle.marshal.specs.Replies.{number_of, row_of, value_of, itself};
 
-use marshal::{bleached, counted, laid};
+use marshal::ReplyNumbers;
 
 // The number N of colours of a cache.
 #[unsafe(no_mangle)]
@@ -21,7 +21,7 @@ pub extern "C" fn juzvanec_cache_colours(
         × (colours.new ≡ value_of itself o)
         × (row.new ≡ row_of o)) }
 {
-    let told = counted(colours::cache_colours(bytes, ways));
+    let told = ReplyNumbers::from(colours::cache_colours(bytes, ways));
     *colours = told.value;
     *row = told.row;
     told.number
@@ -41,7 +41,7 @@ pub extern "C" fn juzvanec_layout(
         × (page.new ≡ value_of itself o)
         × (row.new ≡ row_of o)) }
 {
-    let told = laid(colours::layout(colours, set, index));
+    let told = ReplyNumbers::from(colours::layout(colours, set, index));
     *page = told.value;
     *row = told.row;
     told.number
@@ -61,7 +61,7 @@ pub extern "C" fn juzvanec_bleach(
         × (index.new ≡ value_of itself o)
         × (row.new ≡ row_of o)) }
 {
-    let told = bleached(colours::bleach(colours, set, page));
+    let told = ReplyNumbers::from(colours::bleach(colours, set, page));
     *index = told.value;
     *row = told.row;
     told.number

@@ -3,6 +3,7 @@
 // its refusal, 0 where it answers, and always writes the other numbers through pointers; `part` refuses
 // nothing and returns nothing. Pointers are references: none is null, that of an empty list neither, and
 // what one of them may write no other may reach.
+// Kept: numbers for refusals, and pointers and rows side by side: the C interface.
 #![tactic(auto)]
 
 mod cache;

@@ -6,7 +6,7 @@ ghost use Rattle.admission.specs.Admission.{Judged, judged};
 ghost use Rattle.marshal.specs.BoardWords.{board_of};
 ghost use Rattle.marshal.specs.Replies.{number_of, row_of};
 
-use marshal::{admitted, board_of};
+use marshal::{ReplyNumbers, board_of};
 
 // The part of a VCPU: it starts at word `start` of the caller's list and has `length` words.
 #[unsafe(no_mangle)]
@@ -37,7 +37,7 @@ pub extern "C" fn juzvanec_admit_plan(
         × (times.new ≡ o.times)
         × (rounds.new ≡ o.rounds)) }
 {
-    let told = admitted(admission::admit_plan(
+    let told = ReplyNumbers::from(admission::admit_plan(
         board_of(board),
         reload,
         vcpus,

@@ -4,7 +4,7 @@ ghost use Rattle.report.specs.Report.{verdict, words_taken, text_of};
 ghost use Rattle.text.specs.Text.{over};
 ghost use Rattle.marshal.specs.Replies.{number_of, row_of};
 
-use marshal::admitted;
+use marshal::ReplyNumbers;
 
 // The verdict on an input. The text has `length` bytes and stands in front of `text`; the plan took
 // `words` words of the input.
@@ -23,8 +23,7 @@ pub extern "C" fn juzvanec_admit(
     ensures text_after { text.new ≡ over (text_of input.now) text.old }
 {
     let reported = report::report(input, text);
-    let verdict = reported.verdict;
-    let told = admitted(verdict);
+    let told = ReplyNumbers::from(reported.verdict);
     *length = reported.length;
     *words = reported.words;
     *row = told.row;

@@ -9,7 +9,7 @@ ghost use Rattle.marshal.specs.BoardWords.{words_left, lent_state};
 ghost use Rattle.marshal.specs.Replies.{number_of, row_of, value_of, number_in, second_in};
 
 use board::Board;
-use marshal::{active, board_of, faulted, looked, moved, quota_set, released, write_recoloured};
+use marshal::{ReplyNumbers, board_of, write_recoloured};
 
 // The page's frame: `mapped` is 1 with the frame, or 0 with frame 0.
 #[unsafe(no_mangle)]
@@ -28,7 +28,7 @@ pub extern "C" fn juzvanec_look(
         × (frame.new ≡ value_of number_in o.reply)
         × (row.new ≡ row_of o.reply)) }
 {
-    let told = looked(frames::look(board_of(board), table, domain, page));
+    let told = ReplyNumbers::from(frames::look(board_of(board), table, domain, page));
     *mapped = told.second;
     *frame = told.value;
     *row = told.row;
@@ -53,7 +53,7 @@ pub extern "C" fn juzvanec_fault(
         × (row.new ≡ row_of o.reply)
         × (table.new ≡ o.next.table)) }
 {
-    let told = faulted(frames::fault(board_of(board), table, domain, page));
+    let told = ReplyNumbers::from(frames::fault(board_of(board), table, domain, page));
     *is_new = told.second;
     *frame = told.value;
     *row = told.row;
@@ -76,7 +76,7 @@ pub extern "C" fn juzvanec_release(
         × (row.new ≡ row_of o.reply)
         × (table.new ≡ o.next.table)) }
 {
-    let told = released(frames::release(board_of(board), table, domain, page));
+    let told = ReplyNumbers::from(frames::release(board_of(board), table, domain, page));
     *frame = told.value;
     *row = told.row;
     told.number
@@ -98,7 +98,7 @@ pub extern "C" fn juzvanec_colours(
         × (quota.new ≡ value_of second_in o.reply)
         × (row.new ≡ row_of o.reply)) }
 {
-    let told = active(frames::colours(board_of(board), table, domain));
+    let told = ReplyNumbers::from(frames::colours(board_of(board), table, domain));
     *set = told.value;
     *quota = told.second;
     *row = told.row;
@@ -126,9 +126,8 @@ pub extern "C" fn juzvanec_recolour(
         × (moves.new ≡ listed o.moves moves.old)) }
 {
     let done = moves::recolour(board_of(board), table, domain, set, moves);
-    let answer = done.answer;
-    let told = moved(answer);
-    write_recoloured(board, answer, domain, set);
+    let told = ReplyNumbers::from(done.answer);
+    write_recoloured(board, done.answer, domain, set);
     *count = told.value;
     *row = told.row;
     told.number
@@ -154,9 +153,8 @@ pub extern "C" fn juzvanec_take_back(
         × (table.new ≡ o.next.table)) }
 {
     let done = taking_back::take_back(board_of(board), table, domain, set, moves);
-    let answer = done.answer;
-    let told = moved(answer);
-    write_recoloured(board, answer, domain, set);
+    let told = ReplyNumbers::from(done.answer);
+    write_recoloured(board, done.answer, domain, set);
     *count = told.value;
     *row = told.row;
     told.number
@@ -178,7 +176,7 @@ pub extern "C" fn juzvanec_set_quota(
         × (row.new ≡ row_of o.reply)
         × (board.new ≡ o.next.board)) }
 {
-    let told = quota_set(frames::set_quota(board, table, domain, quota));
+    let told = ReplyNumbers::from(frames::set_quota(board, table, domain, quota));
     *answer = told.value;
     *row = told.row;
     told.number

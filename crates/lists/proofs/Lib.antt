@@ -2,6 +2,7 @@
 pub mod CaseSplits
 pub mod PassingNumbers
 pub mod RangeLoops
+pub mod Finds
 pub mod Searches
 pub mod AgreeingTests
 pub mod Members

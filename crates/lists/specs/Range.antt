@@ -1,5 +1,5 @@
 -- The numbers of a range that pass a test: "lowest", "next" and "ascending" of document 01 are the head, the tail and the order of such a list.
-use Rattle.std.specs.Prelude.{ℕ, zero, suc, ◌+◌, ◌-◌, Bool, true, false, not, ◌&&◌, ◌||◌, List, [], ◌∷◌, eqb, ltb, get_or, if◌then◌else◌}
+use Rattle.std.specs.Prelude.{ℕ, zero, suc, ◌+◌, ◌-◌, Bool, true, false, not, ◌&&◌, ◌||◌, List, [], ◌∷◌, Option, None, Some, eqb, ltb, get_or, if◌then◌else◌}
 
 -- n numbers from i on: i, i + 1, ..
 unfoldable pub from : ℕ → ℕ → List ℕ
@@ -41,6 +41,10 @@ lowest_from p i n = head_or n (keep p (from i (n - i)))
 -- the lowest number below n that passes
 abbrev pub lowest : (ℕ → Bool) → ℕ → ℕ
 lowest p n = lowest_from p 0 n
+
+-- the lowest number below n that passes, if one does
+unfoldable pub lowest_below : (ℕ → Bool) → ℕ → Option ℕ
+lowest_below p n = let low = lowest p n in if ltb low n then Some low else None
 
 -- the sum over the members of a list
 unfoldable pub total : (ℕ → ℕ) → List ℕ → ℕ

@@ -15,7 +15,7 @@ use Rattle.calls.specs.Calls.{Answer, Move, Done, with_active, with_quota, recol
 use Rattle.calls.specs.TakeBack.{take_back}
 use Rattle.marshal.specs.BoardWords.{words_from, board_of, board_words, words_after, words_left, lent_state}
 
-taken : (ws : List ℕ) (n k : ℕ) → k + n ≤ length ws → take n (drop k ws) ≡ words_from k n ws
+pub taken : (ws : List ℕ) (n k : ℕ) → k + n ≤ length ws → take n (drop k ws) ≡ words_from k n ws
 taken ws zero k h = refl
 taken ws (suc n) k h =
     let l : k < length ws = omega arith in

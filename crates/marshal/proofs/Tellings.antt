@@ -1,19 +1,18 @@
--- What tells a reply tells an equal one.
+-- What tells a reply tells an equal one, and what tells a number tells it as the count of moves.
 use Prim.Native.Nat.{ℕ}
-use mathlib.Core.Path.{◌≡◌, sym, ◌∙◌, ap}
-use Rattle.refusal.specs.Reply.{Reply, Answers, Refuses}
+use mathlib.Core.Path.{◌≡◌, ◌∙◌, ap}
+use Rattle.std.specs.Prelude.{Result, Ok, Err}
+use Rattle.refusal.specs.declared.Refusal.{Refusal}
+use Rattle.refusal.specs.Numbers.{reply_of, reply_with}
+use Rattle.refusal.specs.Reply.{Reply}
+use Rattle.calls.specs.Calls.{Answer, Moved}
 use Rattle.marshal.specs.declared.replies.ReplyNumbers.{ReplyNumbers}
-use Rattle.marshal.specs.Replies.{number_of, row_of, value_of, Tells}
+use Rattle.marshal.specs.Replies.{number_of, row_of, value_of, Tells, itself, nothing, number_in, second_in}
 
 pub told_same : {A : Type 0} (f g : A → ℕ) {p q : Reply A} {t : ReplyNumbers} → Tells f g p t → p ≡ q → Tells f g q t
 told_same f g h e =
     record { number = h.number ∙ ap number_of e; row = h.row ∙ ap row_of e; value = h.value ∙ ap (value_of f) e; second = h.second ∙ ap (value_of g) e }
 
--- a struct that has the numbers of an answer or of a refusal tells it
-pub tells_answer : {A : Type 0} (f g : A → ℕ) {p : Reply A} {a : A} {t : ReplyNumbers} → p ≡ Answers a
-    → (t.number ≡ 0) × (t.row ≡ 0) × (t.value ≡ f a) × (t.second ≡ g a) → Tells f g p t
-tells_answer f g e h = told_same f g (record { number = h.0; row = h.1; value = h.2; second = h.3 }) (sym e)
-
-pub tells_refusal : {A : Type 0} (f g : A → ℕ) {p : Reply A} {n r : ℕ} {t : ReplyNumbers} → p ≡ Refuses n r
-    → (t.number ≡ n) × (t.row ≡ r) × (t.value ≡ 0) × (t.second ≡ 0) → Tells f g p t
-tells_refusal f g e h = told_same f g (record { number = h.0; row = h.1; value = h.2; second = h.3 }) (sym e)
+pub told_moved : (r : Result ℕ Refusal) {q : Reply Answer} {t : ReplyNumbers} → Tells itself nothing (reply_of r) t → reply_with Moved r ≡ q → Tells number_in second_in q t
+told_moved (Ok n) h e = told_same number_in second_in (record { number = h.number; row = h.row; value = h.value; second = h.second }) e
+told_moved (Err r) h e = told_same number_in second_in (record { number = h.number; row = h.row; value = h.value; second = h.second }) e

@@ -5,8 +5,5 @@
 mod replies;
 mod words;
 
-pub use replies::{
-    ReplyNumbers, active, admitted, bleached, counted, faulted, laid, looked, moved, quota_set,
-    released,
-};
+pub use replies::ReplyNumbers;
 pub use words::{board_of, write_recoloured};

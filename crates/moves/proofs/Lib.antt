@@ -6,3 +6,4 @@ pub mod PageCounts
 pub mod NextColour
 pub mod StartingKeys
 pub mod RecolouringReply
+pub mod NextBoard

@@ -1,3 +1,2 @@
--- The definitions of `moves`: the answer in document 01's numbers, and what its code works out on its way.
-pub mod Paper
+-- The definitions of `moves`: what its code works out on its way.
 pub mod Steps

@@ -5,7 +5,9 @@
 #![tactic(auto)]
 
 mod moving;
+mod new_set;
 mod ordering;
 mod recolouring;
 
-pub use recolouring::{Moved, Recoloured, check_set, recolour, with_active};
+pub use new_set::NewSet;
+pub use recolouring::{Recoloured, check_set, recolour, with_active};

@@ -17,9 +17,6 @@ at_most_is : (m n : ℕ) → at_most m n ≡ min m n
 unfolding at_most
 at_most_is m n = below_or_not n m (λ l. rw (lt-ltb n m l) (omega arith)) (λ l. rw (le-ltb n m l) (omega arith))
 
-pub not_above : (m n k : ℕ) → k ≡ at_most m n → k ≤ m
-not_above m n k e = omega (arith, e, at_most_is m n)
-
 module _ (t : List ℕ) where
   pub record AtTurn (end taken : ℕ) : Type 0 where
     pub ends : end ≡ min most_frames (length t)
@@ -28,6 +25,10 @@ module _ (t : List ℕ) where
 
   pub turn_start : (end : ℕ) → end ≡ at_most most_frames (length t) → AtTurn end 0
   turn_start end e = record { ends = e ∙ at_most_is most_frames (length t); within = omega arith; aligned = refl }
+
+  -- the same, after as many words
+  pub as_turn : {end next : ℕ} (taken : ℕ) → next ≡ taken → AtTurn end taken → AtTurn end next
+  as_turn taken e r = rw e r
 
   module _ {end taken : ℕ} (r : AtTurn end taken) where
     -- no word after the end is read

@@ -6,11 +6,10 @@ use native.Mathlib.Omega.{arith}
 use mathlib.Core.Bool.{Bool}
 use mathlib.Core.List.{List}
 use mathlib.Core.Path.{◌≡◌, refl, sym, ap, ap₂, ◌∙◌}
-use lib.Dec.{eqb}
 use lib.ListN.{length, take, length-take}
 use Rattle.tally.specs.Tally.{is_own, zeros, LanesAtMost, count_all}
 use Rattle.tally.proofs.ClosedForm.{count_append, count_length, count_shift, count_within, zeros_length, zeros_within}
-use Rattle.pass.specs.Steps.{read, LanesFit, survey_of}
+use Rattle.pass.specs.Steps.{read, is_free, LanesFit, lanes_of}
 use Rattle.pass.proofs.BlockLoops.{part, then_part}
 use Rattle.pass.proofs.BlockSequence.{AtTurn, to_the_end}
 
@@ -22,6 +21,10 @@ module _ (p : ℕ → Bool) (t : List ℕ) where
   pub tally_start : Tallied zeros 0
   unfolding count_all
   tally_start = record { so_far = refl }
+
+  -- the same, after as many words
+  pub as_tallied : {lanes : List ℕ} {next : ℕ} (taken : ℕ) → next ≡ taken → Tallied lanes taken → Tallied lanes next
+  as_tallied taken e r = rw e r
 
   module _ {lanes : List ℕ} {taken : ℕ} (r : Tallied lanes taken) where
     size : 16 ≡ length lanes
@@ -51,7 +54,7 @@ module _ (p : ℕ → Bool) (t : List ℕ) where
       tally_end all e = (tally_on end turn.within all e).so_far ∙ ap (count_all p zeros 0) (to_the_end t turn)
 
 -- both lanes are what the survey gives
-pub surveyed : (low : ℕ) (t held free : List ℕ) → held ≡ count_all (is_own low) zeros 0 (read t) → free ≡ count_all (eqb 0) zeros 0 (read t)
-    → record { held = held; free = free } ≡ survey_of low (read t)
-unfolding survey_of
-surveyed low t held free h f = λ j. record { held = h j; free = f j }
+pub surveyed : (counted : Bool) (low : ℕ) (t held free : List ℕ) → held ≡ count_all (is_own low) zeros 0 (read t) → free ≡ count_all (is_free counted) zeros 0 (read t)
+    → record { held = held; free = free } ≡ lanes_of counted low (read t)
+unfolding lanes_of
+surveyed counted low t held free h f = λ j. record { held = h j; free = f j }

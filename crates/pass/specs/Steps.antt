@@ -32,6 +32,14 @@ pub record LanesFit (lanes : List ℕ) : Type 0 where
 unfoldable pub own_in : ℕ → List ℕ → ℕ
 own_in first t = length (keep (λ (f : ℕ). is_own first (get_or t f 0)) (upto (length t)))
 
+-- word x is that of a free frame, and free frames are counted
+abbrev pub is_free : Bool → ℕ → Bool
+is_free counted x = counted && eqb 0 x
+
+-- by lane, the frames that the domain with this first word holds, and the free frames where they are counted
+unfoldable pub lanes_of : Bool → ℕ → List ℕ → Surveyed
+lanes_of counted first t = record { held = count_all (is_own first) zeros 0 t; free = count_all (is_free counted) zeros 0 t }
+
 -- by lane, the frames that the domain with this first word holds, and the free frames
 unfoldable pub survey_of : ℕ → List ℕ → Surveyed
 survey_of first t = record { held = count_all (is_own first) zeros 0 t; free = count_all (eqb 0) zeros 0 t }

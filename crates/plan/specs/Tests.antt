@@ -49,6 +49,11 @@ abbrev pub shares_colour : List ℕ → ℕ → Bool
 shares_colour tasks j =
     any_of (λ (k : ℕ). not (eqb (vcpu_of tasks k) (vcpu_of tasks j)) && shares (colour_set tasks j) (colour_set tasks k)) (upto (task_rows tasks))
 
+-- it shares one with such a row after it; the lowest row that does is the lowest that 20 refuses
+abbrev pub shares_with_later : List ℕ → ℕ → Bool
+shares_with_later tasks j =
+    any_of (λ (k : ℕ). not (eqb (vcpu_of tasks k) (vcpu_of tasks j)) && shares (colour_set tasks j) (colour_set tasks k)) (from (j + 1) (task_rows tasks - (j + 1)))
+
 -- 17 to 20, each over all rows before the next
 unfoldable pub row_tests : Board → List ℕ → List ℕ → List Test
 row_tests b vcpus tasks =

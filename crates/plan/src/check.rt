@@ -1,15 +1,12 @@
 // Refusals 15 to 20 of a plan: document 01, "Refusals in the order tested". One number is tested over
-// all rows before the next, and the lowest row at fault is named. A function that looks for a row
-// gives the number of rows where none is at fault.
+// all rows before the next, and the lowest row at fault is named.
 ghost use Rattle.std.specs.Prelude.{◌≡◌, ◌≤◌, length};
-ghost use Rattle.lists.specs.Range.{lowest};
 ghost use Rattle.refusal.specs.Reply.{unless};
-ghost use Rattle.board.specs.Paper.{paper_checked};
-ghost use Rattle.rows.specs.RowWords.{task_rows};
-ghost use Rattle.plan.specs.Tests.{bad_vcpu_words, bad_task_words, bad_vcpu, bad_task, bad_order, shares_colour, row_tests, plan_reply};
+ghost use Rattle.refusal.specs.Numbers.{reply_of};
+ghost use Rattle.plan.specs.Tests.{bad_vcpu_words, bad_task_words, row_tests, plan_reply};
 
-use crate::fields::{bad_order, bad_task, bad_vcpu, shares_colour};
-use board::{Board, Checked};
+use crate::fields::{bad_order, bad_task, bad_vcpu, shares_with_later};
+use board::Board;
 use refusal::Refusal;
 use rows::{TASK_WORDS, VCPU_WORDS};
 
@@ -21,16 +18,23 @@ const MOST_VCPU_WORDS: usize = 64;
 const MOST_TASK_WORDS: usize = 640;
 
 // Refusals 15 to 20 of a plan, where the shorter of the lists of times and of rounds has so many words.
-pub fn check_plan(board: Board, reload: u32, vcpus: &[u32], tasks: &[u32], room: usize) -> Checked
-    ensures { paper_checked result ≡ plan_reply board reload vcpus.now tasks.now room }
+#[tactic(auto, unfolding(crate::specs::Tests::plan_reply, crate::specs::Tests::plan_tests, refusal::specs::Reply::unless))]
+pub fn check_plan(
+    board: Board,
+    reload: u32,
+    vcpus: &[u32],
+    tasks: &[u32],
+    room: usize,
+) -> Result<(), Refusal>
+    ensures { reply_of result ≡ plan_reply board reload vcpus.now tasks.now room }
 {
     if bad_vcpu_words(reload, vcpus.len()) {
-        return Checked::Refused(Refusal { number: 15, row: 0 });
+        return Err(Refusal::VcpuWords);
     }
     if bad_task_words(vcpus.len() / VCPU_WORDS, tasks.len(), room) {
-        return Checked::Refused(Refusal { number: 16, row: 0 });
+        return Err(Refusal::TaskWords);
     }
-    check_rows(board, vcpus, tasks)
+    check_rows(&board, vcpus, tasks)
 }
 
 // 15: the reload, or the number of VCPU words.
@@ -50,98 +54,24 @@ fn bad_task_words(rows: usize, words: usize, room: usize) -> bool
     size | ((words % TASK_WORDS != 0) | (room < rows + words / TASK_WORDS))
 }
 
-fn check_rows(board: Board, vcpus: &[u32], tasks: &[u32]) -> Checked
+// 17 to 20. Of two task rows that share a colour the lower is at fault first.
+fn check_rows(board: &Board, vcpus: &[u32], tasks: &[u32]) -> Result<(), Refusal>
     requires { (length vcpus.now ≤ 64) × (length tasks.now ≤ 640) }
-    ensures { paper_checked result ≡ unless (row_tests board vcpus.now tasks.now) tt }
+    ensures { reply_of result ≡ unless (row_tests board.now vcpus.now tasks.now) tt }
 {
     let vcpu_rows = (vcpus.len() / VCPU_WORDS) as u32;
-    let vcpu = wrong_vcpu(board, vcpus, vcpu_rows);
-    if vcpu < vcpu_rows {
-        return Checked::Refused(Refusal {
-            number: 17,
-            row: vcpu,
-        });
+    if let Some(row) = (0..vcpu_rows).find(|&i| bad_vcpu(board, vcpus, i)) {
+        return Err(Refusal::VcpuRow(row));
     }
-    let rows = (tasks.len() / TASK_WORDS) as u32;
-    let task = wrong_task(board, vcpus, tasks, rows);
-    if task < rows {
-        return Checked::Refused(Refusal {
-            number: 18,
-            row: task,
-        });
+    let task_rows = (tasks.len() / TASK_WORDS) as u32;
+    if let Some(row) = (0..task_rows).find(|&j| bad_task(board, vcpus, tasks, j)) {
+        return Err(Refusal::TaskRow(row));
     }
-    let order = wrong_order(tasks, rows);
-    if order < rows {
-        return Checked::Refused(Refusal {
-            number: 19,
-            row: order,
-        });
+    if let Some(row) = (0..task_rows).find(|&j| bad_order(tasks, j)) {
+        return Err(Refusal::TaskOrder(row));
     }
-    let sharing = shared_colour(tasks, rows);
-    if sharing < rows {
-        return Checked::Refused(Refusal {
-            number: 20,
-            row: sharing,
-        });
+    if let Some(row) = (0..task_rows).find(|&j| shares_with_later(tasks, task_rows, j)) {
+        return Err(Refusal::SharedColour(row));
     }
-    Checked::Accepted
-}
-
-// 17: the lowest VCPU row with a field outside its range.
-fn wrong_vcpu(board: Board, vcpus: &[u32], rows: u32) -> u32
-    ensures { result ≡ lowest (bad_vcpu board vcpus.now) rows }
-{
-    let mut i: u32 = 0;
-    while i < rows {
-        if bad_vcpu(board, vcpus, i) {
-            return i;
-        }
-        i += 1;
-    }
-    i
-}
-
-// 18: the lowest task row with a field or cost outside its rule.
-fn wrong_task(board: Board, vcpus: &[u32], tasks: &[u32], rows: u32) -> u32
-    requires { rows ≡ task_rows tasks.now }
-    ensures { result ≡ lowest (bad_task board vcpus.now tasks.now) rows }
-{
-    let mut j: u32 = 0;
-    while j < rows {
-        if bad_task(board, vcpus, tasks, j) {
-            return j;
-        }
-        j += 1;
-    }
-    j
-}
-
-// 19: the lowest task row that names a lower VCPU than the row before.
-fn wrong_order(tasks: &[u32], rows: u32) -> u32
-    requires { rows ≡ task_rows tasks.now }
-    ensures { result ≡ lowest (bad_order tasks.now) rows }
-{
-    let mut j: u32 = 0;
-    while j < rows {
-        if bad_order(tasks, j) {
-            return j;
-        }
-        j += 1;
-    }
-    j
-}
-
-// 20: the lowest task row that shares a colour with a row of another VCPU.
-fn shared_colour(tasks: &[u32], rows: u32) -> u32
-    requires { rows ≡ task_rows tasks.now }
-    ensures { result ≡ lowest (shares_colour tasks.now) rows }
-{
-    let mut j: u32 = 0;
-    while j < rows {
-        if shares_colour(tasks, rows, j) {
-            return j;
-        }
-        j += 1;
-    }
-    j
+    Ok(())
 }

@@ -8,7 +8,8 @@ use mathlib.Core.List.{List, [], ◌∷◌, ◌++◌, map, append-nil}
 use mathlib.Core.Path.{◌≡◌, refl, sym, ap, ◌∙◌}
 use lib.Dec.{ltb}
 use borrow.Author.Tests.{lt-ltb, le-ltb}
-use Rattle.lists.specs.Range.{from, keep, head_or, lowest, lowest_from}
+use Rattle.std.specs.Prelude.{Some, None}
+use Rattle.lists.specs.Range.{from, keep, head_or, lowest, lowest_from, lowest_below}
 use Rattle.lists.proofs.CaseSplits.{cases}
 use Rattle.lists.proofs.Searches.{from_on}
 use Rattle.refusal.specs.Reply.{Answers, Refuses, Test, each, unless, also, passes}
@@ -57,6 +58,15 @@ module _ {A : Type 0} (n number : ℕ) (f : ℕ → Bool) (rest : List Test) (a 
       unless (each n number f ++ rest) a ≡ (if ltb (lowest f n) n then Refuses number (lowest f n) else unless rest a)
   unfolding each lowest_from
   unless_each = rw (sub-zero n) (rows n 0 (zero-add n))
+
+  -- the lowest of the n refuses, if one does, and else the rest decides
+  pub refused_lowest : {r : ℕ} → lowest_below f n ≡ Some r → unless (each n number f ++ rest) a ≡ Refuses number r
+  unfolding lowest_below
+  refused_lowest e = unless_each ∙ cases (ltb (lowest f n) n) (λ h. rw h (cc (rw h at e))) (λ h. cc (rw h at e))
+
+  pub passed_lowest : lowest_below f n ≡ None → unless (each n number f ++ rest) a ≡ unless rest a
+  unfolding lowest_below
+  passed_lowest e = unless_each ∙ cases (ltb (lowest f n) n) (λ h. cc (rw h at e)) (λ h. rw h)
 
 -- where no test of two lists fails, none of the second does
 pub passed_later : (xs ys : List Test) → passes (xs ++ ys) ≡ true → passes ys ≡ true

@@ -50,15 +50,15 @@ module _ (input : List ℕ) where
       ((neither (over_limit input) (ltb (length input) (4 * plan_words input)) fits).0, a.1)
 
   -- the input is a plan where the plan in front of it ends with it
-  pub ends : (n : ℕ) → extent_reply input ≡ Answers n → length input ≡ 4 * n → n ≡ words_taken input
+  pub ends : (n : ℕ) → extent_reply input ≡ Answers n → length input ≡ 4 * n → (not_a_plan input ≡ false) × (n ≡ words_taken input)
   unfolding words_taken not_a_plan
   ends n e h =
       let a = answered n e in
       let long : length input ≡ 4 * plan_words input = omega (arith, h, a.1) in
-      sym a.1 ∙ rw (a.0, eq-eqb (length input) (4 * plan_words input) long) refl
+      (rw (a.0, eq-eqb (length input) (4 * plan_words input) long) refl, sym a.1 ∙ rw (a.0, eq-eqb (length input) (4 * plan_words input) long) refl)
 
-  pub goes_on : (n : ℕ) → extent_reply input ≡ Answers n → (length input ≡ 4 * n → ⊥) → 0 ≡ words_taken input
-  unfolding words_taken not_a_plan
+  pub goes_on : (n : ℕ) → extent_reply input ≡ Answers n → (length input ≡ 4 * n → ⊥) → not_a_plan input ≡ true
+  unfolding not_a_plan
   goes_on n e h =
       let a = answered n e in
       rw (a.0, ne_eqb (length input) (4 * plan_words input) (λ l. h (l ∙ ap (λ (k : ℕ). 4 * k) a.1))) refl
@@ -69,23 +69,15 @@ module _ (input : List ℕ) where
       let both = neither (over_limit input) (not (eqb (length input) (4 * plan_words input))) y in
       (both.0, omega (arith, eqb-true (length input) (4 * plan_words input) (not-false _ both.1)))
 
-  pub no_extent : (n r : ℕ) → extent_reply input ≡ Refuses n r → 0 ≡ words_taken input
-  unfolding words_taken
+  pub no_extent : (n r : ℕ) → extent_reply input ≡ Refuses n r → not_a_plan input ≡ true
   no_extent n r e =
-      cases (not_a_plan input) (λ y. rw y refl)
+      cases (not_a_plan input) (λ y. y)
       (λ y. let whole = extent_whole (plain y).0 (plain y).1 in let clash : Answers (plan_words input) ≡ Refuses n r = sym whole ∙ e in cc)
 
-  -- a plan has at least 6 words
-  pub none_taken : words_taken input ≡ 0 → not_a_plan input ≡ true
-  unfolding words_taken plan_words
-  none_taken e = cases (not_a_plan input) (λ y. y) (λ y. absurd (six (rw y at e)))
-    where
-      six : 6 + domain_count input + 4 * vcpu_count input + 20 * task_count input ≡ 0 → ⊥
-      six z = omega (arith, z)
-
-  pub some_taken : (n : ℕ) → n ≡ words_taken input → (n ≡ 0 → ⊥) → not_a_plan input ≡ false
+  -- no words are taken of what is no plan
+  pub none_taken : not_a_plan input ≡ true → 0 ≡ words_taken input
   unfolding words_taken
-  some_taken n e h = cases (not_a_plan input) (λ y. absurd (h (e ∙ rw y))) (λ y. y)
+  none_taken e = rw e refl
 
   pub counts_few : not_a_plan input ≡ false → (domain_count input ≤ 8) × (vcpu_count input ≤ 16) × (task_count input ≤ 32)
   unfolding not_a_plan over_limit

@@ -1,45 +1,32 @@
 // The words of the input, and the plan that they hold: document 01, "Examples from the recorder".
-ghost use Rattle.std.specs.Prelude.{◌≡◌, ◌<◌, ◌≤◌, length, get_or, replicate};
+ghost use Rattle.std.specs.Prelude.{◌≡◌, ◌<◌, ◌≤◌, length};
 ghost use Rattle.admission.specs.Admission.{leaving, judged};
-ghost use Rattle.admission.specs.Paper.{paper_admission};
+ghost use Rattle.refusal.specs.Numbers.{reply_of};
 ghost use Rattle.report.specs.Input.{word_in, words_in, domain_count, vcpu_count, task_count, board_in, reload_in, vcpus_in, tasks_in};
 
-use admission::{Admission, admit_plan};
+use admission::admit_plan;
 use board::{Board, first_quotas};
+use refusal::Refusal;
 use rows::{TASK_WORDS, VCPU_WORDS};
-use text::MOST_ROWS;
+use text::{MOST_TASKS, MOST_VCPUS};
 
 // What the counts of an input say, whether or not it is as long as they say.
-#[derive(Clone, Copy)]
+#[derive(Clone, Copy, Debug, PartialEq, Eq)]
 pub(crate) struct Rows {
     pub domains: usize,
     pub vcpus: usize,
     pub tasks: usize,
 }
 
-fn wide(byte: u8) -> u32
-    ensures { (result ≡ byte) × (result < 256) }
-{
-    byte as u32
-}
-
-// A byte of the input, or 0 beyond it.
-fn byte(input: &[u8], i: usize) -> u32
-    ensures { (result ≡ get_or input.now i 0) × (result < 256) }
-{
-    if i < input.len() { wide(input[i]) } else { 0 }
-}
-
-// No index wraps: word counts are 32-bit numbers, so that k stays far below 2^62.
+// Word k of the input; a byte beyond it reads as 0. No index wraps: word counts are 32-bit numbers, so that k stays far
+// below 2^62.
+#[tactic(auto, unfolding(crate::specs::Input::word_in))]
 fn word_in(input: &[u8], k: usize) -> u32
     requires { k < 1000000000000000000 }
     ensures { result ≡ word_in input.now k }
 {
-    let i = 4 * k;
-    byte(input, i)
-        + 256 * byte(input, i + 1)
-        + 65536 * byte(input, i + 2)
-        + 16777216 * byte(input, i + 3)
+    let byte = |i: usize| input.get(4 * k + i).copied().unwrap_or(0);
+    u32::from_le_bytes([byte(0), byte(1), byte(2), byte(3)])
 }
 
 pub(crate) fn count_rows(input: &[u8]) -> Rows
@@ -60,44 +47,16 @@ fn read_words(input: &[u8], k: usize, list: &mut [u32])
     requires { (k < 1000000) × (length list.old < 1000000) }
     ensures { list.new ≡ words_in input.now k (length list.old) }
 {
-    let mut i = 0;
-    while i < list.len() {
+    for i in 0..list.len() {
         list[i] = word_in(input, k + i);
-        i += 1;
     }
-}
-
-// Room for the longest lists. The contracts give only the lengths, which lending a part needs.
-fn vcpu_space() -> [u32; 64]
-    ensures { 64 ≡ length result }
-{
-    [0; 64]
-}
-
-fn task_space() -> [u32; 640]
-    ensures { 640 ≡ length result }
-{
-    [0; 640]
-}
-
-// A word for each row.
-pub(crate) fn row_space() -> [u32; MOST_ROWS]
-    ensures { 48 ≡ length result }
-{
-    [0; MOST_ROWS]
-}
-
-fn no_grants() -> [u32; 8]
-    ensures { result ≡ replicate 8 0 }
-{
-    [0; 8]
 }
 
 fn read_board(input: &[u8], domains: usize) -> Board
     requires { (domains ≡ domain_count input.now) × (domains ≤ 8) }
     ensures { result ≡ board_in input.now }
 {
-    let mut grants = no_grants();
+    let mut grants = [0; 8];
     read_words(input, 3, &mut grants[..domains]);
     Board {
         colours: word_in(input, 0),
@@ -111,21 +70,26 @@ fn read_board(input: &[u8], domains: usize) -> Board
 
 // Admission of the plan that the input holds, where its counts are within their limits. The program prints
 // no rounds.
-pub(crate) fn judge(input: &[u8], rows: Rows, times: &mut [u32], rounds: &mut [u32]) -> Admission
+pub(crate) fn judge(
+    input: &[u8],
+    rows: Rows,
+    times: &mut [u32],
+    rounds: &mut [u32],
+) -> Result<(), Refusal>
     requires domains_value { (rows.domains ≡ domain_count input.now) × (rows.domains ≤ 8) }
     requires vcpus_value { (rows.vcpus ≡ vcpu_count input.now) × (rows.vcpus ≤ 16) }
     requires tasks_value { (rows.tasks ≡ task_count input.now) × (rows.tasks ≤ 32) }
-    ensures { leaving (paper_admission result) times.new rounds.new ≡ judged (board_in input.now) (reload_in input.now) (vcpus_in input.now) (tasks_in input.now) times.old rounds.old }
+    ensures { leaving (reply_of result) times.new rounds.new ≡ judged (board_in input.now) (reload_in input.now) (vcpus_in input.now) (tasks_in input.now) times.old rounds.old }
 {
     let domains = rows.domains;
     let board = read_board(input, domains);
     let reload = word_in(input, 3 + domains);
     let vcpu_words = VCPU_WORDS * rows.vcpus;
-    let mut first = vcpu_space();
+    let mut first = [0; VCPU_WORDS * MOST_VCPUS];
     let vcpus = &mut first[..vcpu_words];
     read_words(input, 5 + domains, vcpus);
     let task_words = TASK_WORDS * rows.tasks;
-    let mut second = task_space();
+    let mut second = [0; TASK_WORDS * MOST_TASKS];
     let tasks = &mut second[..task_words];
     read_words(input, 6 + domains + vcpu_words, tasks);
     admit_plan(board, reload, vcpus, tasks, times, rounds)

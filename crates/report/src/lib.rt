@@ -5,33 +5,26 @@
 
 mod input;
 
-ghost use Rattle.std.specs.Prelude.{◌≡◌, ℕ, ◌≤◌, false, ◌||◌, ltb, List, length, take};
-ghost use Rattle.admission.specs.Paper.{paper_admission};
-ghost use Rattle.report.specs.Paper.{paper_extent};
+ghost use Rattle.std.specs.Prelude.{◌≡◌, ℕ, ◌≤◌, true, false, ◌||◌, ltb, List, length, take, MatchOption};
+ghost use Rattle.refusal.specs.Numbers.{reply_of};
 ghost use Rattle.report.specs.Report.{extent_reply, not_a_plan, verdict, words_taken, text_of};
 ghost use Rattle.text.specs.Text.{over};
 
-use crate::input::{count_rows, judge, row_space};
-use admission::Admission;
+use crate::input::{count_rows, judge};
 use refusal::Refusal;
 use rows::{TASK_WORDS, VCPU_WORDS};
-use text::{MOST_TASKS, MOST_VCPUS, TEXT_BYTES, write_admitted, write_refused};
+use text::{MOST_ROWS, MOST_TASKS, MOST_VCPUS, TEXT_BYTES, write_admitted, write_refused};
 
 // The longest plan has 718 words. One byte more tells an input that is too long, whatever follows it.
 pub const INPUT_BYTES: usize = 2873;
 
 const MOST_DOMAINS: usize = 8;
 
-#[derive(Clone, Copy)]
-pub enum Extent {
-    Words(u32),
-    Refused(Refusal),
-}
-
+// Kept: 0 words and no Option for an input that is no plan, as `words_taken` says it and `juzvanec_admit` tells it.
 // The verdict, how many words of the input the plan took, and how many bytes the text has.
-#[derive(Clone, Copy)]
+#[derive(Clone, Copy, Debug, PartialEq, Eq)]
 pub struct Reported {
-    pub verdict: Admission,
+    pub verdict: Result<(), Refusal>,
     pub words: u32,
     pub length: u32,
 }
@@ -39,51 +32,45 @@ pub struct Reported {
 fn over_limit(domains: usize, vcpus: usize, tasks: usize) -> bool
     ensures { result ≡ ltb 8 domains || ltb 16 vcpus || ltb 32 tasks }
 {
-    if MOST_DOMAINS < domains {
-        return true;
-    }
-    if MOST_VCPUS < vcpus {
-        return true;
-    }
-    MOST_TASKS < tasks
+    MOST_DOMAINS < domains || MOST_VCPUS < vcpus || MOST_TASKS < tasks
 }
 
 // How many words the plan in front of the input takes. The input may go on after it.
-pub fn plan_extent(input: &[u8]) -> Extent
-    ensures { paper_extent result ≡ extent_reply input.now }
+pub fn plan_extent(input: &[u8]) -> Result<u32, Refusal>
+    ensures { reply_of result ≡ extent_reply input.now }
 {
     let rows = count_rows(input);
     let domains = rows.domains;
     let vcpus = rows.vcpus;
     let tasks = rows.tasks;
     if over_limit(domains, vcpus, tasks) {
-        return Extent::Refused(Refusal { number: 1, row: 0 });
+        return Err(Refusal::NotAPlan);
     }
     let words = 6 + domains + VCPU_WORDS * vcpus + TASK_WORDS * tasks;
     if input.len() < 4 * words {
-        return Extent::Refused(Refusal { number: 1, row: 0 });
+        return Err(Refusal::NotAPlan);
     }
-    Extent::Words(words as u32)
+    Ok(words as u32)
 }
 
 // The answer to a whole input. The text stands in front of the lent bytes, and the rest of them is as it
 // was.
 pub fn report(input: &[u8], text: &mut [u8; TEXT_BYTES]) -> Reported
-    ensures verdict_value { paper_admission result.verdict ≡ verdict input.now }
+    ensures verdict_value { reply_of result.verdict ≡ verdict input.now }
     ensures words_value { (result.words ≡ words_taken input.now) × (result.length ≡ length (text_of input.now)) × (result.length ≤ length text.new) }
     ensures text_after { text.new ≡ over (text_of input.now) text.old }
 {
-    let words = whole_plan(input);
-    if words == 0 {
-        return Reported {
-            verdict: Admission::Refused(Refusal { number: 1, row: 0 }),
-            words,
-            length: write_refused(text, 1, 0),
-        };
+    match whole_plan(input) {
+        Some(words) => report_plan(input, words, text),
+        None => Reported {
+            verdict: Err(Refusal::NotAPlan),
+            words: 0,
+            length: write_refused(text, Refusal::NotAPlan.number(), Refusal::NotAPlan.row()),
+        },
     }
-    report_plan(input, words, text)
 }
 
+// Kept: the array, and how many of its bytes were read: so docs/guide/rattle.md names the call.
 // What the program does between reading and writing: the text for an input, of which the array has the first
 // bytes, and the text's length. `read` says how many bytes these are, and a number beyond the array means all of
 // it. The last clause says that the rest of the input does not matter: an input that is longer than the array
@@ -93,40 +80,37 @@ pub fn answer(input: &[u8; INPUT_BYTES], read: usize, text: &mut [u8; TEXT_BYTES
     ensures text_after { text.new ≡ over (text_of (take read input.now)) text.old }
     ensures by_index { (whole : List ℕ) → take (length input.now) whole ≡ take read input.now → text_of whole ≡ text_of (take read input.now) }
 {
-    let bytes: &[u8] = input;
-    let all = bytes.len();
-    let kept = if read < all { read } else { all };
-    let reported = report(&bytes[..kept], text);
-    reported.length as usize
+    let kept = read.min(input.len());
+    report(&input[..kept], text).length as usize
 }
 
-// How many words an input has that is one plan and nothing else, or 0.
-fn whole_plan(input: &[u8]) -> u32
-    ensures { result ≡ words_taken input.now }
+// How many words an input has that is one plan and nothing else.
+fn whole_plan(input: &[u8]) -> Option<u32>
+    ensures { MatchOption result (not_a_plan input.now ≡ true) (λ words. (not_a_plan input.now ≡ false) × (words ≡ words_taken input.now)) }
 {
-    let Extent::Words(words) = plan_extent(input) else {
-        return 0;
+    let Ok(words) = plan_extent(input) else {
+        return None;
     };
     if input.len() == 4 * words as usize {
-        words
+        Some(words)
     } else {
-        0
+        None
     }
 }
 
 fn report_plan(input: &[u8], words: u32, text: &mut [u8; TEXT_BYTES]) -> Reported
     requires { (not_a_plan input.now ≡ false) × (words ≡ words_taken input.now) }
-    ensures verdict_value { paper_admission result.verdict ≡ verdict input.now }
+    ensures verdict_value { reply_of result.verdict ≡ verdict input.now }
     ensures words_value { (result.words ≡ words_taken input.now) × (result.length ≡ length (text_of input.now)) × (result.length ≤ length text.new) }
     ensures text_after { text.new ≡ over (text_of input.now) text.old }
 {
     let rows = count_rows(input);
-    let mut times = row_space();
-    let mut rounds = row_space();
+    let mut times = [0; MOST_ROWS];
+    let mut rounds = [0; MOST_ROWS];
     let verdict = judge(input, rows, &mut times, &mut rounds);
     let length = match verdict {
-        Admission::Admitted => write_admitted(text, &times, rows.vcpus, rows.tasks),
-        Admission::Refused(refusal) => write_refused(text, refusal.number, refusal.row),
+        Ok(()) => write_admitted(text, &times, rows.vcpus, rows.tasks),
+        Err(refusal) => write_refused(text, refusal.number(), refusal.row()),
     };
     Reported {
         verdict,

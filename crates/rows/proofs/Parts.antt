@@ -10,10 +10,11 @@ use lib.Count.{ones}
 use lib.ListN.{length, get_or, take, drop, length-drop}
 use lib.Seq.{length-take-le, get_or-take, get_or-drop}
 use borrow.Author.Tests.{eqb-true, eqb-false, eq-eqb, ne_eqb, not-true, not-false}
+use Rattle.std.specs.Prelude.{Option, None, Some, MatchOption, unwrap_or}
 use Rattle.lists.specs.Range.{lowest_from}
 use Rattle.lists.proofs.CaseSplits.{below_or_not}
 use Rattle.lists.proofs.RangeLoops.{sought_end}
-use Rattle.lists.proofs.Searches.{found, missed, sought_past, sought_le}
+use Rattle.lists.proofs.Searches.{found, missed, sought_past, sought_le, sought_is}
 use Rattle.rows.specs.RowWords.{task_word, vcpu_of, colour_set, cost, task_rows}
 use Rattle.rows.specs.Part.{is_row_of, next_own, next_other, part_start, part_end, rows_from, part_from, part_of}
 use Rattle.rows.specs.ValidRows.{TaskRow, Tasks, AscendingVcpus}
@@ -32,12 +33,14 @@ module _ (p : ℕ → Bool) (i n : ℕ) where
   none_sooner m l h =
       below_or_not (lowest_from p i n) n (λ g. (found p i n g).before m l h) (λ g. missed p i n g m l (omega (arith, sought_within)))
 
--- a row is told by its first word
-pub is_own_lem : (tasks : List ℕ) (v j : ℕ) → get_or tasks (20 * j) 0 ≡ v → is_row_of tasks v j ≡ true
-is_own_lem tasks v j e = let first : 20 * j + 0 ≡ 20 * j = omega arith in rw (first, e) (eq-eqb v v refl)
-
-pub not_own : (tasks : List ℕ) (v j : ℕ) → (get_or tasks (20 * j) 0 ≡ v → ⊥) → is_row_of tasks v j ≡ false
-not_own tasks v j e = let first : 20 * j + 0 ≡ 20 * j = omega arith in rw first (ne_eqb _ v e)
+  -- what `find` answers among the rows from row i on, or the number of rows where it finds none
+  pub first_or_end :
+      (r : Option ℕ)
+      → MatchOption r ((k : ℕ) → i ≤ k → k < n → p k ≡ false) (λ m. (i ≤ m) × (m < n) × (p m ≡ true) × ((k : ℕ) → i ≤ k → k < m → p k ≡ false))
+      → unwrap_or r n ≡ lowest_from p i n
+  first_or_end None none =
+      below_or_not i n (λ l. sym (sought_past p i n n (omega arith) (le_refl n) none ∙ sought_end p n n (le_refl n))) (λ l. sym (sought_end p i n l))
+  first_or_end (Some m) h = sym (sought_is p i n m h.0 h.1 h.2 h.3)
 
 module _ (tasks : List ℕ) (v : ℕ) where
   abbrev pub own : ℕ → Bool
@@ -45,6 +48,20 @@ module _ (tasks : List ℕ) (v : ℕ) where
 
   abbrev pub other : ℕ → Bool
   other j = not (is_row_of tasks v j)
+
+  -- the next rows of the VCPU from row i on begin and end within the rows
+  pub start_within : (i : ℕ) → next_own tasks i v ≤ task_rows tasks
+  start_within i = sought_within own i (task_rows tasks)
+
+  pub end_within : (i : ℕ) → next_other tasks i v ≤ task_rows tasks
+  end_within i = sought_within other i (task_rows tasks)
+
+  pub end_later : (i : ℕ) → i ≤ task_rows tasks → i ≤ next_other tasks i v
+  end_later i = sought_ge other i (task_rows tasks)
+
+  pub part_from_is : (i : ℕ) → let s = next_own tasks i v in part_from tasks i v ≡ take (20 * next_other tasks s v - 20 * s) (drop (20 * s) tasks)
+  unfolding part_from rows_from
+  part_from_is i = refl
 
   -- a search from a row that no row of the VCPU stands before finds the first
   pub start_from : (i : ℕ) → i ≤ task_rows tasks → ((m : ℕ) → m < i → own m ≡ false) → next_own tasks i v ≡ part_start tasks v
@@ -61,15 +78,15 @@ module _ (tasks : List ℕ) (v : ℕ) where
 
   pub start_le : part_start tasks v ≤ task_rows tasks
   unfolding part_start
-  start_le = sought_within own 0 (task_rows tasks)
+  start_le = start_within 0
 
   pub start_le_end : part_start tasks v ≤ part_end tasks v
   unfolding part_end
-  start_le_end = sought_ge other (part_start tasks v) (task_rows tasks) start_le
+  start_le_end = end_later (part_start tasks v) start_le
 
   pub end_le : part_end tasks v ≤ task_rows tasks
   unfolding part_end
-  end_le = sought_within other (part_start tasks v) (task_rows tasks)
+  end_le = end_within (part_start tasks v)
 
   pub part_at_start : part_from tasks (part_start tasks v) v ≡ part_of tasks v
   unfolding part_from part_of
@@ -138,6 +155,9 @@ module _ (tasks : List ℕ) (v : ℕ) where
         few = omega (arith, part_rows, end_le, t.few);
         row = λ i l. (let h : i < count = omega (arith, part_rows) in part_row i h (t.row _ (omega (arith, end_le))));
       }
+
+-- the next rows of a VCPU, and that they lie within the rows
+pub ruleset next_rows = (start_within, end_within, end_later, part_from_is)
 
 module _ (tasks : List ℕ) (ascending : AscendingVcpus tasks) where
   climbs : (k i : ℕ) → i + k < task_rows tasks → vcpu_of tasks i ≤ vcpu_of tasks (i + k)

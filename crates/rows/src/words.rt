@@ -8,8 +8,10 @@ use crate::{TASK_SET, TASK_WORDS, VCPU_WORDS};
 fn word_at(words: &[u32], at: usize) -> u32
     ensures { result ≡ get_or words.now at 0 }
 {
-    if at < words.len() { words[at] } else { 0 }
+    words.get(at).copied().unwrap_or(0)
 }
+
+// Kept: a list and a row's number as two arguments: loops go along the numbers, and a view would be made at each call.
 
 // Word k of a VCPU's row.
 pub fn vcpu_word(vcpus: &[u32], row: u32, k: u32) -> u32
@@ -27,9 +29,10 @@ pub fn task_word(tasks: &[u32], row: u32, k: u32) -> u32
 
 // The cost of a task with the colours that it holds. A set without a colour gives 0, which is the word
 // of the set itself; k colours above 16 give word k - 17 of the next row, or 0 beyond the list.
+#[tactic(auto, unfolding(crate::specs::RowWords::cost))]
 pub fn cost(tasks: &[u32], row: u32) -> u32
     ensures { result ≡ cost_of tasks.now row }
 {
-    let k = u32::count_ones(task_word(tasks, row, TASK_SET));
+    let k = task_word(tasks, row, TASK_SET).count_ones();
     task_word(tasks, row, TASK_SET + k)
 }

@@ -6,10 +6,12 @@ ghost use Rattle.table_words.specs.Sets.{masked_in, limit_of, LimitsBy};
 use colours::has_colour;
 
 // The number of colours is a power of two, so that a mask gives the remainder.
+// Kept: colours and set apart; the board holds one, the call the other, and a struct would only be taken apart here.
+#[tactic(auto, unfolding(crate::specs::Sets::masked_in), using(colours::proofs::Ranges::own_colour))]
 pub fn in_set(colours: usize, set: u32, frame: usize) -> bool
     ensures { result ≡ masked_in colours set frame }
 {
-    let mask = std::num::wrapping_sub_usize(colours, 1);
+    let mask = colours.wrapping_sub(1);
     has_colour(set, ((frame & mask) % 32) as u32)
 }
 
@@ -27,11 +29,5 @@ fn limit_of(colours: usize, set: u32, lane: usize) -> u16
 pub fn limits_of(colours: usize, set: u32) -> [u16; 16]
     ensures { LimitsBy colours set result }
 {
-    let mut limits = [0u16; 16];
-    let mut lane: usize = 0;
-    while lane < 16 {
-        limits[lane] = limit_of(colours, set, lane);
-        lane += 1;
-    }
-    limits
+    std::array::from_fn(|lane| limit_of(colours, set, lane))
 }

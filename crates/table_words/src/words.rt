@@ -8,8 +8,8 @@ ghost use Rattle.table_words.specs.Words.{above, among};
 pub fn word_for(domain: u32, page: u32) -> u16
     ensures { result ≡ (1 + pages * domain + page) % 65536 }
 {
-    let first = std::num::wrapping_add_u32(domain << 12, 1);
-    (std::num::wrapping_add_u32(first, page) % 65536) as u16
+    let first = (domain << 12).wrapping_add(1);
+    (first.wrapping_add(page) % 65536) as u16
 }
 
 // How far a word lies above a first one, counted round after 65,535: the page for which the domain with this first
@@ -17,11 +17,12 @@ pub fn word_for(domain: u32, page: u32) -> u16
 pub fn page_of(word: u16, first: u16) -> u16
     ensures { result ≡ above first word }
 {
-    std::num::wrapping_sub_u16(word, first)
+    word.wrapping_sub(first)
 }
 
 // Whether a word is one of so many from a first one on: with the first word of a domain and all its pages, whether it
 // belongs to the domain.
+#[tactic(auto, unfolding(crate::specs::Words::among))]
 pub fn is_among(word: u16, first: u16, count: u16) -> bool
     ensures { result ≡ among first count word }
 {

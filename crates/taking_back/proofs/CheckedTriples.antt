@@ -12,8 +12,8 @@ use Rattle.lists.proofs.CaseSplits.{cases}
 use Rattle.calls.specs.Table.{in_set}
 use Rattle.calls.specs.Calls.{Move}
 use Rattle.calls.specs.TakeBack.{move_list, any_move, frames_named, twice}
-use Rattle.taking_back.specs.Triples.{unfit, is_marked, outside, outsides, wrong_from, wrong_triples}
-use Rattle.taking_back.proofs.TripleWords.{triple_at, next_triple, no_triple}
+use Rattle.taking_back.specs.Triples.{move_at, unfit, is_marked, outside, outsides, wrong_from, wrong_triples}
+use Rattle.taking_back.proofs.TripleWords.{next_triple, no_triple}
 use Rattle.taking_back.proofs.Marks.{by_marks, no_marks}
 
 or_false : (a : Bool) → (a || false) ≡ a
@@ -59,7 +59,7 @@ module _ (t list : List ℕ) (n d c : ℕ) where
 
   module _ {marks : List ℕ} {out k : ℕ} (h : Checking marks out k) (some : k < length list / 3) where
     abbrev m : Move
-    m = triple_at list k
+    m = move_at list k
 
     -- its words are there
     pub in_list : 3 * k + 2 < length list

@@ -16,8 +16,8 @@ use Rattle.calls.specs.Table.{is_stray}
 use Rattle.calls.specs.Calls.{Move, Moved, move, move_all}
 use Rattle.calls.specs.TakeBack.{move_list, any_move, frames_named, twice, back, backward}
 use Rattle.calls.proofs.TakingBackDone.{fits_on, three_words}
-use Rattle.taking_back.specs.Triples.{unfit, outsides, wrong_triples, left, taken_back, beyond, NamesFrames}
-use Rattle.taking_back.proofs.TripleWords.{triple_at, next_triple, no_triple}
+use Rattle.taking_back.specs.Triples.{move_at, unfit, outsides, wrong_triples, left, taken_back, beyond, NamesFrames}
+use Rattle.taking_back.proofs.TripleWords.{next_triple, no_triple}
 use Rattle.taking_back.proofs.FramesOutside.{all_back, few_moves}
 
 -- a list without members
@@ -96,7 +96,7 @@ module _ (start list : List ℕ) where
   module _ {t : List ℕ} {k : ℕ} (whole : length list % 3 ≡ 0) (h : GoingBack t k) where
     module _ (some : k < length list / 3) where
       abbrev m : Move
-      m = triple_at list k
+      m = move_at list k
 
       pub back_in_list : 3 * k + 2 < length list
       back_in_list = omega (arith, whole)

@@ -7,17 +7,10 @@ use lib.ListN.{length, get_or, drop, drop_of_length-le}
 use lib.Seq.{drop-cons}
 use Rattle.calls.specs.Calls.{Move}
 use Rattle.calls.specs.TakeBack.{move_list, frames_named}
-use Rattle.taking_back.specs.Triples.{move_of}
-
--- of equal words
-pub same_triple : (p q v w g h : ℕ) → p ≡ q → v ≡ w → g ≡ h → move_of p v g ≡ move_of q w h
-same_triple p q v w g h e f i = rw (e, f, i) refl
+use Rattle.taking_back.specs.Triples.{move_at}
 
 module _ (list : List ℕ) (k : ℕ) where
-  abbrev pub triple_at : Move
-  triple_at = move_of (get_or list (3 * k) 0) (get_or list (3 * k + 1) 0) (get_or list (3 * k + 2) 0)
-
-  pub next_triple : 3 * k + 2 < length list → move_list (drop (3 * k) list) ≡ triple_at ∷ move_list (drop (3 * (k + 1)) list)
+  pub next_triple : 3 * k + 2 < length list → move_list (drop (3 * k) list) ≡ move_at list k ∷ move_list (drop (3 * (k + 1)) list)
   unfolding move_list
   next_triple l =
       let one : suc (3 * k) ≡ 3 * k + 1 = omega arith in

@@ -1,16 +1,18 @@
 -- What the code of a taking back goes by: document 02, No. 10. A triple and a list as 31 judges them, on a table whose length is F; the marks of the frames
 -- named; and how many new frames lie outside the former set, by which 32 is judged.
-use Rattle.std.specs.Prelude.{ℕ, ◌+◌, ◌%◌, Bool, true, false, not, ◌||◌, List, [], ◌∷◌, ◌≡◌, eqb, leb, length, get_or, set, if◌then◌else◌}
+use Rattle.std.specs.Prelude.{ℕ, ◌+◌, ◌*◌, ◌%◌, Bool, false, not, ◌||◌, List, [], ◌∷◌, ◌≡◌, eqb, leb, length, get_or, set, if◌then◌else◌}
 use Rattle.lists.specs.Range.{upto, keep, is_empty}
 use Rattle.refusal.specs.Reply.{Reply, test, unless}
 use Rattle.calls.specs.Table.{in_set, is_stray}
 use Rattle.calls.specs.Calls.{Answer, Moved, Move, move_all}
 use Rattle.calls.specs.TakeBack.{move_list, any_move, wrong_triple, wrong_words, backward}
-use Rattle.taking_back.specs.declared.triples.Triples.{Triples}
-use Rattle.taking_back.specs.declared.triples.Triples.TheVariants.{Wrong, Outside}
 
 abbrev pub move_of : ℕ → ℕ → ℕ → Move
 move_of p v g = record { page = p; source = v; target = g }
+
+-- the k-th triple of a list
+abbrev pub move_at : List ℕ → ℕ → Move
+move_at list k = move_of (get_or list (3 * k) 0) (get_or list (3 * k + 1) 0) (get_or list (3 * k + 2) 0)
 
 -- what 31 has against a triple by itself, and against a list
 abbrev pub unfit : List ℕ → ℕ → ℕ → ℕ → Move → Bool
@@ -38,13 +40,9 @@ unfoldable pub outsides : ℕ → ℕ → List Move → ℕ
 outsides n c [] = 0
 outsides n c (m ∷ ms) = outside n c m.target + outsides n c ms
 
--- what a list comes to
-abbrev pub judged_as : Bool → ℕ → Triples
-judged_as true k = Wrong
-judged_as false k = Outside k
-
-unfoldable pub triples_of : List ℕ → ℕ → ℕ → ℕ → List ℕ → Triples
-triples_of t n d c list = judged_as (wrong_triples t n d c list) (outsides n c (move_list list))
+-- what a list comes to: 31, or how many of its new frames lie outside the set
+unfoldable pub triples_reply : List ℕ → ℕ → ℕ → ℕ → List ℕ → Reply ℕ
+triples_reply t n d c list = unless (test 31 (wrong_triples t n d c list) ∷ []) (outsides n c (move_list list))
 
 -- the domain's frames outside the set after the moves back
 abbrev pub left : List ℕ → ℕ → ℕ → ℕ → List ℕ → List ℕ

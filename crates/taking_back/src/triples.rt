@@ -1,50 +1,51 @@
 // The triples of a list as 31 judges them: document 02, No. 10. Each is tested by itself, with marks for the frames that
 // the list names; the list is only read.
-ghost use Rattle.std.specs.Prelude.{◌≡◌, true, not, ◌≤◌, ◌<◌, length, get_or, set as store};
+ghost use Rattle.std.specs.Prelude.{◌≡◌, not, ◌*◌, ◌+◌, ◌≤◌, ◌<◌, length, set as store};
 ghost use Rattle.limits.specs.Limits.{most_frames};
-ghost use Rattle.colours.specs.Cache.{is_colour_count};
-ghost use Rattle.taking_back.specs.Triples.{unfit, move_of, is_marked, outside, triples_of};
+ghost use Rattle.refusal.specs.Numbers.{reply_of};
+ghost use Rattle.taking_back.specs.Triples.{unfit, move_of, move_at, is_marked, outside, triples_reply};
 
 use limits::{MOST_FRAMES, PAGES};
+use moves::NewSet;
+use refusal::Refusal;
+use std::mem;
 use table_words::{in_set, is_among, word_for};
 
-// What the triples of a list come to: 31, or how many of their new frames lie outside the former set.
-#[derive(Clone, Copy)]
-pub(crate) enum Triples {
-    Wrong,
-    Outside(usize),
+// A page, its old frame and its new one.
+#[derive(Clone, Copy, Debug, PartialEq, Eq)]
+pub(crate) struct Triple {
+    pub(crate) page: u16,
+    pub(crate) old: usize,
+    pub(crate) new: usize,
 }
 
-// A word of the list: as the result of a call it is known to have 16 bits where it is taken for a frame.
-pub(crate) fn word_at(moves: &[u16], at: usize) -> u16
-    requires { at < length moves.now }
-    ensures { result ≡ get_or moves.now at 0 }
+// A triple of the list.
+pub(crate) fn triple_at(moves: &[u16], i: usize) -> Triple
+    requires { 3 * i + 2 < length moves.now }
+    ensures { move_of result.page result.old result.new ≡ move_at moves.now i }
 {
-    moves[at]
+    let at = 3 * i;
+    Triple {
+        page: moves[at],
+        old: moves[at + 1] as usize,
+        new: moves[at + 2] as usize,
+    }
 }
 
 // Whether 31 has nothing against a triple by itself: the word for its page belongs to the domain, and the new frame
 // has it; the old frame is free, with a colour in the set.
-fn fits(
-    table: &[u16],
-    domain: u32,
-    colours: usize,
-    set: u32,
-    page: u16,
-    old: usize,
-    new: usize,
-) -> bool
-    requires { (is_colour_count colours ≡ true) × (domain < 8) }
-    ensures { result ≡ not (unfit table.now colours domain set (move_of page old new)) }
+fn fits(table: &[u16], former: NewSet, triple: Triple) -> bool
+    ensures { result ≡ not (unfit table.now former.colours former.domain former.set (move_of triple.page triple.old triple.new)) }
 {
-    if (table.len() <= old) | (table.len() <= new) {
+    if (table.len() <= triple.old) | (table.len() <= triple.new) {
         return false;
     }
-    let word = word_for(domain, page as u32);
-    if !is_among(word, word_for(domain, 0), PAGES as u16) | (table[new] != word) {
+    let word = word_for(former.domain, triple.page as u32);
+    let first = word_for(former.domain, 0);
+    if !is_among(word, first, PAGES as u16) | (table[triple.new] != word) {
         return false;
     }
-    (table[old] == 0) & in_set(colours, set, old)
+    (table[triple.old] == 0) & in_set(former.colours, former.set, triple.old)
 }
 
 // Marks a frame, and says whether it was marked.
@@ -53,52 +54,38 @@ fn mark(marks: &mut [u8; MOST_FRAMES], frame: usize) -> bool
     ensures value { result ≡ is_marked marks.old frame }
     ensures marks_after { marks.new ≡ store marks.old frame 1 }
 {
-    let was = marks[frame];
-    marks[frame] = 1;
-    was == 1
+    mem::replace(&mut marks[frame], 1) == 1
 }
 
 // 1 where a frame lies outside a set, else 0.
-fn is_outside(colours: usize, set: u32, frame: usize) -> usize
-    requires { is_colour_count colours ≡ true }
-    ensures { result ≡ outside colours set frame }
+fn is_outside(former: NewSet, frame: usize) -> usize
+    ensures { result ≡ outside former.colours former.set frame }
 {
-    if in_set(colours, set, frame) { 0 } else { 1 }
+    usize::from(!in_set(former.colours, former.set, frame))
 }
 
-// Goes through the list once. A frame that is named twice is found by its mark, one byte for each frame that
-// a board can have.
-pub(crate) fn check_triples(
-    table: &[u16],
-    domain: u32,
-    colours: usize,
-    set: u32,
-    moves: &[u16],
-) -> Triples
-    requires { (is_colour_count colours ≡ true) × (domain < 8) × (length table.now ≤ most_frames) }
-    ensures { result ≡ triples_of table.now colours domain set moves.now }
+// Goes through the list once, and counts the new frames outside the former set. A frame that is named twice is found
+// by its mark, one byte for each frame that a board can have.
+pub(crate) fn check_triples(table: &[u16], former: NewSet, moves: &[u16]) -> Result<usize, Refusal>
+    requires { length table.now ≤ most_frames }
+    ensures { reply_of result ≡ triples_reply table.now former.colours former.domain former.set moves.now }
 {
-    let count = moves.len() / 3;
     if moves.len() % 3 != 0 {
-        return Triples::Wrong;
+        return Err(Refusal::Triples);
     }
     let mut marks = [0u8; MOST_FRAMES];
     let mut outside: usize = 0;
-    let mut i: usize = 0;
-    while i < count {
-        let page = word_at(moves, 3 * i);
-        let old = word_at(moves, 3 * i + 1) as usize;
-        let new = word_at(moves, 3 * i + 2) as usize;
-        if !fits(table, domain, colours, set, page, old, new) {
-            return Triples::Wrong;
+    for i in 0..moves.len() / 3 {
+        let triple = triple_at(moves, i);
+        if !fits(table, former, triple) {
+            return Err(Refusal::Triples);
         }
-        let old_again = mark(&mut marks, old);
-        let new_again = mark(&mut marks, new);
+        let old_again = mark(&mut marks, triple.old);
+        let new_again = mark(&mut marks, triple.new);
         if old_again | new_again {
-            return Triples::Wrong;
+            return Err(Refusal::Triples);
         }
-        outside += is_outside(colours, set, new);
-        i += 1;
+        outside += is_outside(former, triple.new);
     }
-    Triples::Outside(outside)
+    Ok(outside)
 }

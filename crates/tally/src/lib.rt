@@ -6,7 +6,8 @@
 // The page's word, and the first word of the domain; by lane, that is by a frame's number modulo sixteen, how
 // many frames the domain holds, and the lowest free frame; the number of words taken in; and the frame with the
 // page's word. A frame stands as 1 and its number, or 0 where none is known.
-#[derive(Clone, Copy)]
+// Kept: mapped as a number, since `take_in` and `answer_of` of the definitions, and the theorems on them, say it so.
+#[derive(Clone, Copy, Debug, PartialEq, Eq)]
 pub struct Tally {
     pub word: u16,
     pub first: u16,

@@ -1,2 +1,3 @@
--- The definitions of `text`: numbers in decimal, and the lines of a verdict.
+-- The lines of a verdict, and what writing leaves of a lent text.
 pub mod Text
+pub mod Writing

@@ -6,17 +6,9 @@ mod hash;
 mod lines;
 mod words;
 
-ghost use Rattle.std.specs.Prelude.{◌≤◌};
-
-pub use hash::{hash_table, hash_words};
+pub use hash::hash_words;
 pub use lines::{line, number, part, refused, text};
 pub use words::{
     marked_list, marked_table, next_board, next_bytes, next_list, next_table, next_whole_board,
     next_word, next_words,
 };
-
-fn at_most(number: usize, most: usize) -> usize
-    ensures { result ≤ most }
-{
-    if number < most { number } else { most }
-}

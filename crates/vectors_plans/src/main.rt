@@ -45,31 +45,47 @@ fn part_case(input: &mut impl Read, out: &impl Print) {
     let mut room = [0u32; 700];
     let tasks = vectors_input::next_list(input, &mut room);
     let own = rows::part(tasks, vcpu);
-    vectors_input::part(out, b"part ", own.len() as u64);
-    vectors_input::line(out, b" ", vectors_input::hash_words(0, own));
+    vectors_input::part(out, "part ", own.len() as u64);
+    vectors_input::line(out, " ", vectors_input::hash_words(0, own));
 }
 
 fn supply_case(input: &mut impl Read, out: &impl Print) {
     let period = vectors_input::next_word(input);
     let budget = vectors_input::next_word(input);
     let t = vectors_input::next_word(input);
-    vectors_input::text(out, b"supply ");
+    vectors_input::text(out, "supply ");
     vectors_input::number(out, supply::least(period, budget, t));
 }
 
+// The kinds of cases, by their numbers. Any number above those asks for a supply too.
+#[derive(Clone, Copy)]
+enum Case {
+    Admission,
+    Part,
+    Supply,
+}
+
+impl From<u32> for Case {
+    fn from(number: u32) -> Case {
+        match number {
+            0 => Case::Admission,
+            1 => Case::Part,
+            _ => Case::Supply,
+        }
+    }
+}
+
 fn answer(input: &mut impl Read, out: &impl Print) {
-    match vectors_input::next_word(input) {
-        0 => admission_case(input, out),
-        1 => part_case(input, out),
-        _ => supply_case(input, out),
+    match Case::from(vectors_input::next_word(input)) {
+        Case::Admission => admission_case(input, out),
+        Case::Part => part_case(input, out),
+        Case::Supply => supply_case(input, out),
     }
 }
 
 fn main(rt: HostRuntime) {
     let mut input = rt.stdin();
-    let mut left = vectors_input::next_word(&mut input);
-    while 0 < left {
+    for _ in 0..vectors_input::next_word(&mut input) {
         answer(&mut input, &rt);
-        left -= 1;
     }
 }

@@ -1,21 +1,20 @@
 -- `board_tests::check_state` meets its contract: 26 is one test more behind 2 to 7.
-use mathlib.Core.Bool.{Bool}
-use mathlib.Core.Path.{sym, ap, ◌∙◌}
-use Rattle.refusal.specs.Reply.{Reply, Answers, test, also}
-use Rattle.refusal.proofs.Order.{unless_also}
+use Rattle.std.proofs.Common.{sym, ◌∙◌}
+use Rattle.refusal.proofs.Results.{told_of, handed_on, last_fails, last_passes}
 use Rattle.board.specs.Tests.{board_reply, board_tests, state_tests, state_reply, quotas_test}
 use Rattle.board_tests.proofs.check_state.Goals as goal
 
-pub returns-in-Refused : goal.returns-in-Refused
-unfolding state_reply state_tests board_reply also
-returns-in-Refused c =
-    let a = c.args in
-    sym (unless_also tt (board_tests a.board a.words) (quotas_test a.board) ∙ ap (λ (r : Reply (Unit {0})). also r (quotas_test a.board)) (sym c.in-Refused.ensures))
+pub returns-in_err-check_board : goal.returns-in_err-check_board
+unfolding state_reply state_tests board_reply
+returns-in_err-check_board c =
+    told_of _ _ c.from_residual.ensures.1 ∙ handed_on tt tt (board_tests c.args.board c.args.words) _ _ c.in_err-check_board.ensures
+
+pub returns-then-bad_quotas : goal.returns-then-bad_quotas
+unfolding state_reply state_tests board_reply
+returns-then-bad_quotas c =
+    last_fails tt tt (board_tests c.args.board c.args.words) (quotas_test c.args.board) c.in_ok-check_board.ensures (sym c.bad_quotas.ensures ∙ c.if-bad_quotas.true)
 
 pub returns : goal.returns
 unfolding state_reply state_tests board_reply
 returns c =
-    let a = c.args in
-    c.also.ensures
-    ∙ ap (λ (o : Bool). also (Answers tt) (test 26 o)) c.bad_quotas.ensures
-    ∙ sym (unless_also tt (board_tests a.board a.words) (quotas_test a.board) ∙ ap (λ (r : Reply (Unit {0})). also r (quotas_test a.board)) (sym c.in_default.ensures))
+    last_passes tt tt (board_tests c.args.board c.args.words) (quotas_test c.args.board) c.in_ok-check_board.ensures (sym c.bad_quotas.ensures ∙ c.if-bad_quotas.false)

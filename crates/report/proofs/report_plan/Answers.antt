@@ -1,11 +1,13 @@
 -- `report::report_plan` meets its contract: the verdict is admission's, and the lines are those of its times or of its refusal.
+use Rattle.std.specs.Prelude.{replicate}
+use mathlib.Core.Path.{refl}
 use Prim.Native.Nat.{ℕ, ◌≤◌}
 use native.Mathlib.Omega.{arith}
 use mathlib.Core.List.{List}
-use mathlib.Core.Path.{◌≡◌, sym, ap, ◌∙◌}
+use mathlib.Core.Path.{◌≡◌, sym, ap, ap₂, ◌∙◌}
 use lib.ListN.{length}
 use Rattle.admission.specs.Admission.{Judged}
-use Rattle.text.specs.Text.{over}
+use Rattle.text.specs.Text.{over, line, refused_name}
 use Rattle.report.proofs.Verdict.{counts_few, as_judged, refused_text, judged_reply, times_told}
 use Rattle.text.proofs.Lines.{few_lines}
 use Rattle.report.proofs.report_plan.Goals as goal
@@ -23,16 +25,16 @@ judge-verdict-requires c =
     let f = few (goal.at.judge-verdict-requires c).After-count_rows-rows in
     record { domains_value = (r.0, f.0); vcpus_value = (r.1, f.1); tasks_value = (r.2, f.2) }
 
-pub returns-in-Admitted : goal.returns-in-Admitted
-returns-in-Admitted c =
+pub returns-in-Ok : goal.returns-in-Ok
+returns-in-Ok c =
     let i : List ℕ = c.args.input.now in
-    let times : List ℕ = c.row_space-times.result in
-    let rounds : List ℕ = c.row_space-rounds.result in
-    let f = few (goal.at.returns-in-Admitted c).After-count_rows-rows in
-    let lt : length times ≡ 48 = sym c.row_space-times.ensures in
-    let lr : length rounds ≡ 48 = sym c.row_space-rounds.ensures in
+    let times : List ℕ = (replicate 48 0) in
+    let rounds : List ℕ = (replicate 48 0) in
+    let f = few (goal.at.returns-in-Ok c).After-count_rows-rows in
+    let lt : length times ≡ 48 = refl in
+    let lr : length rounds ≡ 48 = refl in
     let judged = ap (λ (o : Judged). o.reply) c.judge-verdict.ensures ∙ judged_reply i c.requires.0 times rounds lt lr in
-    let told = sym (ap (λ (o : Judged). o.reply) c.in-Admitted.ensures ∙ judged_reply i c.requires.0 times rounds lt lr) in
+    let told = sym (ap (λ (o : Judged). o.reply) c.in-Ok.ensures ∙ judged_reply i c.requires.0 times rounds lt lr) in
     let r = c.count_rows-rows.ensures in
     let w = c.write_admitted-length.ensures.holds in
     let text = few_lines _ _ _ f.1 f.2 ∙ times_told i c.requires.0 times rounds _ _ _ lt lr told (ap (λ (o : Judged). o.times) c.judge-verdict.ensures) r.1 r.2 in
@@ -42,14 +44,14 @@ returns-in-Admitted c =
       text_after = w.2 ∙ ap (λ (l : List ℕ). over l c.args.text.now) text;
     }
 
-pub returns-in-Refused : goal.returns-in-Refused
-returns-in-Refused c =
+pub returns-in-Err : goal.returns-in-Err
+returns-in-Err c =
     let i : List ℕ = c.args.input.now in
-    let lt : length c.row_space-times.result ≡ 48 = sym c.row_space-times.ensures in
-    let lr : length c.row_space-rounds.result ≡ 48 = sym c.row_space-rounds.ensures in
-    let told = sym (ap (λ (o : Judged). o.reply) c.in-Refused.ensures ∙ judged_reply i c.requires.0 _ _ lt lr) in
+    let zeros : List ℕ = replicate 48 0 in
+    let long : length zeros ≡ 48 = refl in
+    let told = sym (ap (λ (o : Judged). o.reply) c.in-Err.ensures ∙ judged_reply i c.requires.0 zeros zeros long long) in
     let w = c.write_refused-length.ensures.holds in
-    let text = sym (refused_text i c.requires.0 _ _ told) in
+    let text = ap₂ (λ (n r : ℕ). line refused_name n r) c.number.ensures c.row.ensures ∙ sym (refused_text i c.requires.0 _ _ told) in
     record {
       verdict_value = sym (as_judged i c.requires.0 ∙ told);
       words_value = (c.requires.1, w.0 ∙ ap (λ (l : List ℕ). length l) text, w.1);

@@ -1,52 +1,44 @@
--- `admission::search::vcpu_time` meets its contract: the search of a task, with t for the supply in t.
-use Prim.Native.Nat.{ℕ, ◌≤◌}
-use native.Mathlib.Omega.{arith}
-use mathlib.Core.Path.{◌≡◌, sym, ◌∙◌}
-use Rattle.rows.specs.RowWords.{vcpu_period}
-use Rattle.times.specs.Times.{vcpu_need, vcpu_time}
+-- `admission::search::vcpu_time` meets its contract: what is kept gives the VCPU's need, and t is the supply in t.
+use Rattle.std.proofs.Common.{rules, ◌≡◌, ℕ, arith, ◌∙◌}
+use Rattle.times.specs.Times.{need, vcpu_need, vcpu_time}
 use Rattle.times.specs.Rounds.{vcpu_rounds}
 use Rattle.times.proofs.Search.{Searchable}
-use Rattle.times.proofs.CountedRounds.{search_start, search_found, search_missed, search_next}
 use Rattle.times.proofs.Bounds.{vcpu_search}
+use Rattle.rows.specs.RowWords.{vcpu_period}
+use Rattle.admission.specs.EarlierRows.{row_at}
+use Rattle.admission.specs.Searches.{Searched}
 use Rattle.admission.proofs.CoreVcpus.{kept_need}
+use Rattle.admission.proofs.RoundSearches.{met}
 use Rattle.admission.proofs.search.vcpu_time.Goals as goal
-use Rattle.admission.proofs.search.vcpu_time.Goals.{Start, In-loop-t, After-vcpu_need-need}
+use Rattle.admission.proofs.search.vcpu_time.Goals.{Start, After-core_rows-kept, After-by_rounds}
 
--- the rows are fit for the search
 search_of : (c : Start) → Searchable (λ (t : ℕ). t) (vcpu_need c.args.vcpus.now c.args.i) (λ (x : ℕ). x)
 search_of c = vcpu_search c.args.vcpus.now c.args.i c.requires.0 c.requires.1
 
-in_time : (c : In-loop-t) → c.loop-t.t ≤ vcpu_period c.args.vcpus.now c.args.i
-in_time c = omega (arith, c.loop-t.invariant.1)
+-- the need with what is kept
+abbrev kept : After-core_rows-kept → ℕ → ℕ
+kept c t = let rows = c.core_rows-kept.result.rows in need c.vcpu_word-own.result (λ (j : ℕ). (row_at rows j).period) (λ (j : ℕ). (row_at rows j).budget) c.core_rows-kept.result.count t
 
--- the need with what is kept is the VCPU's
-need_is : (c : After-vcpu_need-need) → c.vcpu_need-need.result ≡ vcpu_need c.args.vcpus.now c.args.i c.loop-t.t
-need_is c =
-    let h = c.loop-t in
-    c.vcpu_need-need.ensures ∙ kept_need h.invariant.2 h.invariant.3 h.t
+need_is : (c : After-core_rows-kept) → (t : ℕ) → kept c t ≡ vcpu_need c.args.vcpus.now c.args.i t
+need_is c t = kept_need c.vcpu_word-own.ensures c.core_rows-kept.ensures t
 
-pub loop-t-init : goal.loop-t-init
-loop-t-init c =
-    (search_start (search_of (goal.at.loop-t-init c).Start), c.vcpu_word-due.ensures, c.vcpu_word-own.ensures, c.core_rows-earlier.ensures)
+pub by_rounds-requires-clause-some : goal.by_rounds-requires-clause-some
+by_rounds-requires-clause-some c = λ t n l h k.
+    let p = goal.at.by_rounds-requires-clause-some c in
+    let e : n ≡ kept p.After-core_rows-kept t = search rules in
+    omega (arith, e, need_is p.After-core_rows-kept t, (search_of p.Start).some t)
 
-pub returns-then-need-t : goal.returns-then-need-t
-unfolding vcpu_time vcpu_rounds
-returns-then-need-t c =
-    let p = goal.at.returns-then-need-t c in
-    let told = search_found (search_of p.Start) c.loop-t.invariant.0 (in_time p.In-loop-t) (rw (need_is p.After-vcpu_need-need) at c.if-need-t.true) in
-    record { found_value = sym told.0; rounds_value = omega (arith, told.1) }
+searched : (c : After-by_rounds) → Searched (λ (t : ℕ). t) (vcpu_need c.args.vcpus.now c.args.i) (vcpu_period c.args.vcpus.now c.args.i) c.by_rounds.result
+searched c =
+    let p = goal.at.After-by_rounds c in
+    rw (← c.vcpu_word.ensures)
+    (c.by_rounds.ensures (λ (t : ℕ). t) (vcpu_need c.args.vcpus.now c.args.i) (λ (x : ℕ). x) (met (search_of p.Start))
+    (λ t n h k. let e : n ≡ kept p.After-core_rows-kept t = search rules in e ∙ need_is p.After-core_rows-kept t) (λ x s h k. search rules))
 
-pub loop-t-preserved : goal.loop-t-preserved
-loop-t-preserved c =
-    let p = goal.at.loop-t-preserved c in
-    let h = c.loop-t in
-    let same = need_is p.After-vcpu_need-need in
-    let later = rw same at c.if-need-t.false in
-    (rw same (search_next (search_of p.Start) h.invariant.0 (in_time p.In-loop-t) later), h.invariant.1, h.invariant.2, h.invariant.3)
+pub returns-clause-found_value : goal.returns-clause-found_value
+unfolding vcpu_time
+returns-clause-found_value c = (searched (goal.at.returns-clause-found_value c).After-by_rounds).found
 
-pub returns : goal.returns
-unfolding vcpu_time vcpu_rounds
-returns c =
-    let h = c.loop-t in
-    let told = search_missed (search_of (goal.at.returns c).Start) h.invariant.0 (omega (arith, h.invariant.1)) in
-    record { found_value = sym told.0; rounds_value = omega (arith, told.1) }
+pub returns-clause-rounds_value : goal.returns-clause-rounds_value
+unfolding vcpu_rounds
+returns-clause-rounds_value c = (searched (goal.at.returns-clause-rounds_value c).After-by_rounds).counted

@@ -8,7 +8,7 @@ use Rattle.board_tests.proofs.domains.in_order.Goals as goal
 
 pub loop-d-preserved : goal.loop-d-preserved
 loop-d-preserved c =
-    let b = c.args.board in
+    let b = c.args.board.now in
     let h = c.loop-d in
     let inside : active_set b h.d - bit_and (active_set b h.d) (grant b h.d) ≡ 0 = omega arith in
     let whole : bit_and (active_set b h.d) (grant b h.d) ≡ active_set b h.d = omega (arith, inside, and_le_l (active_set b h.d) (grant b h.d)) in
@@ -17,7 +17,7 @@ loop-d-preserved c =
 
 pub returns : goal.returns
 returns c =
-    let b = c.args.board in
+    let b = c.args.board.now in
     let h = c.loop-d in
     let done : h.d ≡ b.domains = omega arith in
     λ e. in_order_reply b h.seen (rw done at h.invariant.1) (sym c.is_colour_set.ensures ∙ e)

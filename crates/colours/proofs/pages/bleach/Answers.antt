@@ -5,7 +5,7 @@ use native.Mathlib.Nat.{mod-lt}
 use native.Mathlib.Omega.{arith}
 use mathlib.Core.Bool.{true}
 use mathlib.Core.Path.{◌≡◌, sym, ◌∙◌}
-use borrow.Author.Tests.{lt-ltb, le-ltb}
+use borrow.Author.Tests.{le-ltb}
 use Rattle.refusal.specs.Reply.{unless}
 use Rattle.colours.specs.Cache.{is_colour_count}
 use Rattle.colours.specs.Sets.{is_colour_set}
@@ -30,22 +30,6 @@ colour_of c p =
 -- no index exceeds its page
 index_le : (n set page : ℕ) → is_colour_set n set ≡ true → 0 < n → bleach_index n set page ≤ page
 index_le n set page fine some = bleach_le (colour_set_lem _ _ fine) _ some
-
-pub returns-then-not-is_colour_count : goal.returns-then-not-is_colour_count
-unfolding bleach_reply unless
-returns-then-not-is_colour_count c = simp (sym c.is_colour_count.ensures ∙ c.if-not-is_colour_count.true)
-
-pub returns-then-not-is_colour_set : goal.returns-then-not-is_colour_set
-unfolding bleach_reply unless
-returns-then-not-is_colour_set c =
-    let k = (goal.at.returns-then-not-is_colour_set c).Else-not-is_colour_count in
-    simp (passes_2 k, sym c.is_colour_set.ensures ∙ c.if-not-is_colour_set.true)
-
-pub returns-then-page-gt-LAST_BLEACHED : goal.returns-then-page-gt-LAST_BLEACHED
-unfolding bleach_reply unless
-returns-then-page-gt-LAST_BLEACHED c =
-    let k = goal.at.returns-then-page-gt-LAST_BLEACHED c in
-    simp (passes_2 k.Else-not-is_colour_count, passes_9 k.Else-not-is_colour_set, lt-ltb _ _ c.if-page-gt-LAST_BLEACHED.true)
 
 pub nonzero_rem-colour : goal.nonzero_rem-colour
 nonzero_rem-colour c = (colour_of (goal.at.nonzero_rem-colour c).Else-not-is_colour_count 0).0

@@ -1,9 +1,6 @@
 -- `colours::pages::drop_colour_bits` meets its contract: the laws of `DroppedBits` at a width of 32 bits.
-use native.Mathlib.Omega.{arith}
 use mathlib.Core.Logic.{⊎_elim}
 use mathlib.Core.Path.{sym, ◌∙◌}
-use lib.Pow.{pow_pos}
-use Rattle.colours.proofs.Bits.{one_shl}
 use Rattle.colours.proofs.DroppedBits.{drop_none, drop_low, drop_nothing, masked, shifted}
 use Rattle.colours.proofs.pages.drop_colour_bits.Goals as goal
 
@@ -13,9 +10,6 @@ returns-then-bits-kept c =
     ⊎_elim (λ w. sym (drop_none a.bits a.kept a.page w))
     (λ w. sym (drop_nothing 32 a.page c.ranges.page.fits a.bits a.kept w.1))
     c.then-bits-kept.either
-
-pub overflow_sub-low : goal.overflow_sub-low
-overflow_sub-low c = let a = c.args in omega (arith, one_shl 32 a.kept c.if-kept-ge32.false, pow_pos a.kept)
 
 pub returns-then-bits-ge32 : goal.returns-then-bits-ge32
 returns-then-bits-ge32 c =

@@ -5,7 +5,7 @@ use native.Mathlib.Nat.{div-le_self, mod-lt, mul-le-mul}
 use native.Mathlib.Omega.{arith}
 use mathlib.Core.Bool.{true}
 use mathlib.Core.Path.{◌≡◌, sym, ◌∙◌}
-use borrow.Author.Tests.{lt-ltb, le-ltb}
+use borrow.Author.Tests.{le-ltb}
 use lib.Count.{ones}
 use Rattle.refusal.specs.Reply.{unless}
 use Rattle.colours.specs.Cache.{is_colour_count}
@@ -27,22 +27,6 @@ set_of c = colour_set_lem _ _ (passes_9 c)
 -- the pages before the row of colours in which the index falls
 high_le : (c : Else-not-is_colour_count) → c.args.index / ones c.args.set * c.args.colours ≤ c.args.index * 16
 high_le c = mul-le-mul (div-le_self c.args.index (ones c.args.set)) (count_range _ (passes_2 c)).1
-
-pub returns-then-not-is_colour_count : goal.returns-then-not-is_colour_count
-unfolding layout_reply unless
-returns-then-not-is_colour_count c = simp (sym c.is_colour_count.ensures ∙ c.if-not-is_colour_count.true)
-
-pub returns-then-not-is_colour_set : goal.returns-then-not-is_colour_set
-unfolding layout_reply unless
-returns-then-not-is_colour_set c =
-    let k = (goal.at.returns-then-not-is_colour_set c).Else-not-is_colour_count in
-    simp (passes_2 k, sym c.is_colour_set.ensures ∙ c.if-not-is_colour_set.true)
-
-pub returns-then-index-gt-LAST_INDEX : goal.returns-then-index-gt-LAST_INDEX
-unfolding layout_reply unless
-returns-then-index-gt-LAST_INDEX c =
-    let k = goal.at.returns-then-index-gt-LAST_INDEX c in
-    simp (passes_2 k.Else-not-is_colour_count, passes_9 k.Else-not-is_colour_set, lt-ltb _ _ c.if-index-gt-LAST_INDEX.true)
 
 pub nonzero_rem-index : goal.nonzero_rem-index
 nonzero_rem-index c = (set_of (goal.at.nonzero_rem-index c).Else-not-is_colour_set).size_pos

@@ -3,7 +3,6 @@
 use Prim.Native.Nat.{ℕ, suc}
 use native.Mathlib.Omega.{arith}
 use mathlib.Core.Path.{◌≡◌, sym, ◌∙◌}
-use native.Mathlib.Nat.{pos_of_ne-zero}
 use Rattle.lists.proofs.PassingNumbers.{ahead_start, ahead_take, ahead_skip, ahead_end}
 use Rattle.colours.specs.Sets.{has, colour_at, colours_below}
 use Rattle.colours.proofs.Ranges.{own_colour}
@@ -50,6 +49,3 @@ returns c =
     let a = c.args in
     let h = c.loop-colour in
     sym (h.invariant.1 ∙ rw (ahead_end (has a.set) h.colour a.colours (omega arith)))
-
-pub overflow_sub-left : goal.overflow_sub-left
-overflow_sub-left c = omega (arith, pos_of_ne-zero c.if-left-eq0.false)

@@ -9,8 +9,8 @@ use lib.ListN.{length, set}
 use borrow.Author.Tests.{le-leb, lt-leb}
 use Rattle.limits.specs.Limits.{most_frames, last_page}
 use Rattle.refusal.specs.Reply.{Answers, passes}
+use Rattle.refusal.proofs.Results.{told_with}
 use Rattle.colours.specs.Cache.{is_colour_count}
-use Rattle.board.specs.Paper.{paper_checked}
 use Rattle.board.specs.Tests.{active_set}
 use Rattle.board.proofs.PassedTests.{CallAccepted}
 use Rattle.tally.specs.declared.Tally.{Tally}
@@ -23,13 +23,14 @@ use Rattle.calls.proofs.PageWords.{word_fits}
 use Rattle.calls.proofs.OnePass.{end_lanes, end_below, old_frame, full_quota, new_frame, no_frame}
 use Rattle.choice.proofs.Counts.{sum_of_all}
 use Rattle.choice.proofs.TableCounts.{kept_is, chosen_on}
+use Rattle.table_words.proofs.LowestFound.{below, some_below, none_below}
 use Rattle.frames.specs.Steps.{page_reply}
 use Rattle.frames.proofs.PageCallOutcome.{page_refused, page_passes, page_accepted}
 use Rattle.frames.proofs.mapping.fault.Goals as goal
-use Rattle.frames.proofs.mapping.fault.Goals.{After-choose-frame, After-go_over-tally, After-sum_all}
+use Rattle.frames.proofs.mapping.fault.Goals.{After-choose, After-go_over-tally, After-sum_all, In-Some}
 
 passes_10 : (c : After-go_over-tally) → let a = c.args in page_reply a.board (length a.table.now) a.domain a.page ≡ Answers tt
-passes_10 c = sym c.check_page.ensures ∙ ap paper_checked c.in_default.is
+passes_10 c = sym c.in_ok-check_page.ensures
 
 accepted : (c : After-go_over-tally) → let a = c.args in CallAccepted a.board (length a.table.now) a.domain × (a.page ≤ last_page)
 accepted c = page_accepted _ _ _ _ (passes_10 c)
@@ -67,16 +68,16 @@ mapped_below c = let a = c.args in omega (arith, mapped_is c, end_below a.domain
 at_quota :
     (c : After-sum_all) → let a = c.args in
     is_colour_count a.board.colours ≡ true → c.go_over-tally.result ≡ after a.domain a.page a.table.now
-    → leb c.quota_of.result c.sum_all.result ≡ at_quota_by a.board a.domain (after a.domain a.page a.table.now)
+    → leb c.quota.result c.sum_all.result ≡ at_quota_by a.board a.domain (after a.domain a.page a.table.now)
 unfolding at_quota_by
 at_quota c coloured e =
-    ap₂ leb c.quota_of.ensures (c.sum_all.ensures ∙ sum_of_all _ _ coloured ∙ ap (λ (k : Tally). sum_lanes (λ (i : ℕ). true) k.held) e)
+    ap₂ leb c.quota.ensures (c.sum_all.ensures ∙ sum_of_all _ _ coloured ∙ ap (λ (k : Tally). sum_lanes (λ (i : ℕ). true) k.held) e)
 
 -- the frame to take
 frame_is :
-    (c : After-choose-frame) → let a = c.args in let end = after a.domain a.page a.table.now in
+    (c : After-choose) → let a = c.args in let end = after a.domain a.page a.table.now in
     page_reply a.board (length a.table.now) a.domain a.page ≡ Answers tt → c.go_over-tally.result ≡ end → end.mapped ≡ 0
-    → c.choose-frame.result ≡ frame_for a.board a.domain end
+    → c.choose.result ≡ below (frame_for a.board a.domain end) a.board.frames
 unfolding frame_for
 frame_is c ok e not_mapped =
     let a = c.args in
@@ -87,19 +88,18 @@ frame_is c ok e not_mapped =
     let set : ℕ = active_set a.board a.domain in
     let fine = page_accepted _ _ _ _ ok in
     let lanes = e ∙ end_lanes a.board a.domain a.page t (page_passes _ _ _ _ ok) (omega (arith, not_mapped)) in
-    chosen_on t a.domain (omega (arith, fine.0.bounds)) (omega (arith, fine.0.bounds, fine.0.caller)) n c.active_set.result fine.0.passed.count k.held k.free
-    (ap (λ (q : Tally). q.held) lanes) (ap (λ (q : Tally). q.free) lanes) _ c.choose-frame.ensures
-    ∙ ap (λ (x : ℕ). frame_by n (length t) x k.held k.free) c.active_set.ensures
-    ∙ ap (λ (q : Tally). frame_by n (length t) set q.held q.free) e
-    ∙ ap (λ (m : ℕ). frame_by n m set end.held end.free) fine.0.bounds.long
+    chosen_on t a.domain (omega (arith, fine.0.bounds)) (omega (arith, fine.0.bounds, fine.0.caller)) n c.active_set-set.result fine.0.passed.count k.held k.free
+    (ap (λ (q : Tally). q.held) lanes) (ap (λ (q : Tally). q.free) lanes) _ c.choose.ensures
+    ∙ ap (λ (x : ℕ). below (frame_by n (length t) x k.held k.free) (length t)) c.active_set-set.ensures
+    ∙ ap (λ (q : Tally). below (frame_by n (length t) set q.held q.free) (length t)) e
+    ∙ ap (λ (m : ℕ). below (frame_by n m set end.held end.free) m) fine.0.bounds.long
 
-pub returns-in-Refused : goal.returns-in-Refused
+pub returns-in_err-check_page : goal.returns-in_err-check_page
 unfolding fault
-returns-in-Refused c =
+returns-in_err-check_page c =
     let a = c.args in
-    let first = sym c.check_page.ensures ∙ ap paper_checked c.in-Refused.is in
-    let m = told_by _ _ (page_refused _ a.domain _ _ a.page _ _ first) in
-    record { result_value = m.0; table_after = m.1 }
+    let m = told_by _ _ (page_refused _ a.domain _ _ a.page _ _ (sym c.in_err-check_page.ensures)) in
+    record { result_value = told_with _ _ _ c.from_residual.ensures.1 ∙ m.0; table_after = m.1 }
 
 pub overflow_cast-result : goal.overflow_cast-result
 overflow_cast-result c = let b = (goal.at.overflow_cast-result c).After-go_over-tally in omega (arith, mapped_below b, most b)
@@ -111,39 +111,59 @@ returns-then-tally-gt0 c =
     let m = told_by _ _ (old_frame a.board a.domain a.page a.table.now (fine b) (omega (arith, mapped_is b))) in
     record { result_value = ap (λ (f : ℕ). Answers (Old (f - 1))) (mapped_is b) ∙ m.0; table_after = m.1 }
 
-pub returns-then-quota_of-sum_all : goal.returns-then-quota_of-sum_all
-returns-then-quota_of-sum_all c =
-    let at = goal.at.returns-then-quota_of-sum_all c in
+pub returns-then-quota-sum_all : goal.returns-then-quota-sum_all
+returns-then-quota-sum_all c =
+    let at = goal.at.returns-then-quota-sum_all c in
     let b = at.After-go_over-tally in
     let a = c.args in
-    let full = sym (at_quota at.After-sum_all (accepted b).0.passed.count (end_is b)) ∙ le-leb _ _ c.if-quota_of-sum_all.true in
+    let full = sym (at_quota at.After-sum_all (accepted b).0.passed.count (end_is b)) ∙ le-leb _ _ c.if-quota-sum_all.true in
     let m = told_by _ _ (full_quota a.board a.domain a.page a.table.now (fine b) (omega (arith, mapped_is b)) full) in
     record { result_value = m.0; table_after = m.1 }
 
-pub overflow_cast-result-then-frame-table : goal.overflow_cast-result-then-frame-table
-overflow_cast-result-then-frame-table c = omega (arith, most (goal.at.overflow_cast-result-then-frame-table c).After-go_over-tally)
-
-pub returns-then-frame-table : goal.returns-then-frame-table
-returns-then-frame-table c =
-    let at = goal.at.returns-then-frame-table c in
+pub returns-in_default : goal.returns-in_default
+returns-in_default c =
+    let at = goal.at.returns-in_default c in
     let b = at.After-go_over-tally in
     let a = c.args in
-    let below = sym (at_quota at.After-sum_all (accepted b).0.passed.count (end_is b)) ∙ lt-leb _ _ c.if-quota_of-sum_all.false in
-    let frame = frame_is at.After-choose-frame (passes_10 b) (end_is b) (omega (arith, mapped_is b)) in
-    let l = (accepted b).0.bounds.long in
-    let m = told_by _ _ (new_frame a.board a.domain a.page a.table.now (fine b) (omega (arith, mapped_is b)) below (omega (arith, frame, l))) in
-    record {
-      result_value = ap (λ (f : ℕ). Answers (New f)) frame ∙ m.0;
-      table_after = ap₂ (λ (f w : ℕ). set a.table.now f w) frame (word_is b) ∙ m.1;
-    }
+    let under = sym (at_quota at.After-sum_all (accepted b).0.passed.count (end_is b)) ∙ lt-leb _ _ c.if-quota-sum_all.false in
+    let none = none_below _ _ (sym c.in_default.is ∙ frame_is at.After-choose (passes_10 b) (end_is b) (omega (arith, mapped_is b))) in
+    let m = told_by _ _ (no_frame a.board a.domain a.page a.table.now (fine b) (omega (arith, mapped_is b)) under none) in
+    record { result_value = m.0; table_after = m.1 }
+
+-- the frame that was chosen
+chosen :
+    (c : In-Some) → let a = c.args in
+    page_reply a.board (length a.table.now) a.domain a.page ≡ Answers tt → c.go_over-tally.result ≡ after a.domain a.page a.table.now → (after a.domain a.page a.table.now).mapped ≡ 0
+    → (c.in-Some.frame ≡ frame_for a.board a.domain (after a.domain a.page a.table.now)) × (c.in-Some.frame < a.board.frames)
+chosen c ok e not_mapped = some_below _ _ _ (sym c.in-Some.is ∙ frame_is (goal.at.In-Some c).After-choose ok e not_mapped)
+
+pub bounds-table-frame : goal.bounds-table-frame
+bounds-table-frame c =
+    let at = goal.at.bounds-table-frame c in
+    let b = at.After-go_over-tally in
+    omega (arith, (chosen at.In-Some (passes_10 b) (end_is b) (omega (arith, mapped_is b))).1, (accepted b).0.bounds.long)
+
+pub offset_bounds-table-frame : goal.offset_bounds-table-frame
+offset_bounds-table-frame c =
+    let at = goal.at.offset_bounds-table-frame c in
+    let b = at.After-go_over-tally in
+    omega (arith, (chosen at.In-Some (passes_10 b) (end_is b) (omega (arith, mapped_is b))).1, (accepted b).0.bounds.long, most b)
+
+pub overflow_cast-result-2 : goal.overflow_cast-result-2
+overflow_cast-result-2 c =
+    let at = goal.at.overflow_cast-result-2 c in
+    let b = at.After-go_over-tally in
+    omega (arith, (chosen at.In-Some (passes_10 b) (end_is b) (omega (arith, mapped_is b))).1, (accepted b).0.bounds.long, most b)
 
 pub returns : goal.returns
 returns c =
     let at = goal.at.returns c in
     let b = at.After-go_over-tally in
     let a = c.args in
-    let below = sym (at_quota at.After-sum_all (accepted b).0.passed.count (end_is b)) ∙ lt-leb _ _ c.if-quota_of-sum_all.false in
-    let frame = frame_is at.After-choose-frame (passes_10 b) (end_is b) (omega (arith, mapped_is b)) in
-    let l = (accepted b).0.bounds.long in
-    let m = told_by _ _ (no_frame a.board a.domain a.page a.table.now (fine b) (omega (arith, mapped_is b)) below (omega (arith, frame, l))) in
-    record { result_value = m.0; table_after = m.1 }
+    let under = sym (at_quota at.After-sum_all (accepted b).0.passed.count (end_is b)) ∙ lt-leb _ _ c.if-quota-sum_all.false in
+    let frame = chosen at.In-Some (passes_10 b) (end_is b) (omega (arith, mapped_is b)) in
+    let m = told_by _ _ (new_frame a.board a.domain a.page a.table.now (fine b) (omega (arith, mapped_is b)) under (omega (arith, frame.0, frame.1))) in
+    record {
+      result_value = ap (λ (f : ℕ). Answers (New f)) frame.0 ∙ m.0;
+      table_after = ap₂ (λ (f w : ℕ). set a.table.now f w) frame.0 (word_is b) ∙ m.1;
+    }

@@ -1,39 +1,56 @@
 -- `frames::mapping::release` meets its contract: the outcomes of `PageSearch` for the frame that the search finds.
 use native.Mathlib.Omega.{arith}
-use mathlib.Core.Path.{◌≡◌, sym, ap, ◌∙◌}
+use Prim.Native.Nat.{◌<◌}
+use mathlib.Core.Path.{◌≡◌, refl, sym, ◌∙◌}
 use lib.ListN.{length}
+use Rattle.lists.specs.Range.{is_at, lowest}
 use Rattle.refusal.specs.Reply.{Answers}
-use Rattle.board.specs.Paper.{paper_checked}
+use Rattle.refusal.proofs.Results.{told_with}
 use Rattle.calls.specs.Calls.{release}
 use Rattle.calls.proofs.CallTests.{told_by}
+use Rattle.table_words.proofs.LowestFound.{found_low, found_none}
 use Rattle.frames.specs.Steps.{page_reply}
 use Rattle.frames.proofs.PageCallOutcome.{page_refused, page_accepted}
 use Rattle.frames.proofs.PageSearch.{release_mapped, release_unmapped}
 use Rattle.frames.proofs.mapping.release.Goals as goal
-use Rattle.frames.proofs.mapping.release.Goals.{After-lowest_word-frame}
+use Rattle.frames.proofs.mapping.release.Goals.{After-lowest_word, In-Some}
 
-passes_10 : (c : After-lowest_word-frame) → let a = c.args in page_reply a.board (length a.table.now) a.domain a.page ≡ Answers tt
-passes_10 c = sym c.check_page.ensures ∙ ap paper_checked c.in_default.is
+passes_10 : (c : After-lowest_word) → let a = c.args in page_reply a.board (length a.table.now) a.domain a.page ≡ Answers tt
+passes_10 c = sym c.in_ok-check_page.ensures
+
+-- the frame that was found
+low : (c : In-Some) → let t = c.args.table.now in (c.in-Some.frame ≡ lowest (is_at t c.word_for.result) (length t)) × (c.in-Some.frame < length t)
+low c = found_low _ _ _ (sym c.lowest_word.ensures ∙ c.in-Some.is)
+
+pub offset_bounds-table-frame : goal.offset_bounds-table-frame
+offset_bounds-table-frame c =
+    let at = goal.at.offset_bounds-table-frame c in
+    omega (arith, page_accepted _ _ _ _ (passes_10 at.After-lowest_word), (low at.In-Some).1)
+
+pub bounds-table-frame : goal.bounds-table-frame
+bounds-table-frame c = (low (goal.at.bounds-table-frame c).In-Some).1
 
 pub overflow_cast-result : goal.overflow_cast-result
-overflow_cast-result c = omega (arith, page_accepted _ _ _ _ (passes_10 (goal.at.overflow_cast-result c).After-lowest_word-frame))
+overflow_cast-result c =
+    let at = goal.at.overflow_cast-result c in
+    omega (arith, page_accepted _ _ _ _ (passes_10 at.After-lowest_word), (low at.In-Some).1)
 
-pub returns-in-Refused : goal.returns-in-Refused
+pub returns-in_err-check_page : goal.returns-in_err-check_page
 unfolding release
-returns-in-Refused c =
+returns-in_err-check_page c =
     let a = c.args in
-    let first = sym c.check_page.ensures ∙ ap paper_checked c.in-Refused.is in
-    let m = told_by _ _ (page_refused _ a.domain _ _ a.page _ _ first) in
-    record { result_value = m.0; table_after = m.1 }
+    let m = told_by _ _ (page_refused _ a.domain _ _ a.page _ _ (sym c.in_err-check_page.ensures)) in
+    record { result_value = told_with _ _ _ c.from_residual.ensures.1 ∙ m.0; table_after = m.1 }
 
-pub returns-then-frame-table : goal.returns-then-frame-table
-returns-then-frame-table c =
-    let passed = passes_10 (goal.at.returns-then-frame-table c).After-lowest_word-frame in
-    let m = told_by _ _ (release_mapped _ _ _ _ passed _ _ c.word_for.ensures c.lowest_word-frame.ensures c.if-frame-table.true) in
+pub returns-in_default : goal.returns-in_default
+returns-in_default c =
+    let none = found_none _ _ (sym c.lowest_word.ensures ∙ c.in_default.is) in
+    let m = told_by _ _ (release_unmapped _ _ _ _ (passes_10 (goal.at.returns-in_default c).After-lowest_word) _ _ c.word_for.ensures refl none) in
     record { result_value = m.0; table_after = m.1 }
 
 pub returns : goal.returns
 returns c =
-    let passed = passes_10 (goal.at.returns c).After-lowest_word-frame in
-    let m = told_by _ _ (release_unmapped _ _ _ _ passed _ _ c.word_for.ensures c.lowest_word-frame.ensures c.if-frame-table.false) in
+    let at = goal.at.returns c in
+    let f = low at.In-Some in
+    let m = told_by _ _ (release_mapped _ _ _ _ (passes_10 at.After-lowest_word) _ _ c.word_for.ensures f.0 f.1) in
     record { result_value = m.0; table_after = m.1 }

@@ -5,9 +5,8 @@ use Rattle.board.specs.declared.Board.{Board}
 use Rattle.calls.specs.Table.{state_of}
 use Rattle.calls.specs.Calls.{Answer, Outcome, with_active, recolour as recolour_call, listed}
 use Rattle.marshal.specs.BoardWords.{board_of, words_after}
-use Rattle.marshal.specs.Replies.{number_in, second_in}
 use Rattle.marshal.proofs.BoardRoundTrip.{words_left_lem}
-use Rattle.marshal.proofs.Tellings.{told_same}
+use Rattle.marshal.proofs.Tellings.{told_moved}
 use Rattle.juzvanec.proofs.table.juzvanec_recolour.Goals as goal
 
 pub returns : goal.returns
@@ -23,5 +22,5 @@ returns c =
     c.write_recoloured.ensures
     ∙ ap (λ (p : Reply Answer). words_after p (with_active (board_of a.board.now) a.domain a.set) a.board.now) reply
     ∙ words_left_lem a.board.now a.table.now a.moves.now a.domain a.set in
-    let t = told_same number_in second_in c.moved-told.ensures reply in
+    let t = told_moved _ c.from-told.ensures reply in
     record { holds = (t.number, t.value, t.row, words, table, list) }

@@ -7,10 +7,10 @@ pub returns-then-domain-lt8 : goal.returns-then-domain-lt8
 returns-then-domain-lt8 c =
     let a = c.args in
     let long : length a.words.now ≡ 27 = search rules in
-    rw c.in-Count.is (sym (one_word a.words.now a.domain a.set long (omega arith)))
+    rw c.in-Ok.is (sym (one_word a.words.now a.domain a.set long (omega arith)))
 
 pub returns-else-domain-lt8 : goal.returns-else-domain-lt8
 returns-else-domain-lt8 c =
     let a = c.args in
     let long : length a.words.now ≡ 27 = search rules in
-    rw c.in-Count.is (sym (no_word a.words.now a.domain a.set long (omega arith)))
+    rw c.in-Ok.is (sym (no_word a.words.now a.domain a.set long (omega arith)))

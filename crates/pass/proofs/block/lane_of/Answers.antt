@@ -1,14 +1,12 @@
--- `pass::block::lane_of` meets its contract. The invariant: the lane sought is sought from `i` on.
-use native.Mathlib.Omega.{arith}
-use Rattle.lists.proofs.RangeLoops.{seek_hit, seek_miss, seek_end}
-use borrow.Author.Tests.{eq-eqb, ne_eqb}
+-- `pass::block::lane_of` meets its contract: what `find` gives is the lowest lane with the word.
+use Rattle.std.proofs.Common.{◌≡◌, true, false, rules}
+use Rattle.std.proofs.lemmas.Iterator.{first_from_Range}
+use Rattle.lists.specs.Range.{is_at}
+use Rattle.lists.proofs.Finds.{lowest_found}
 use Rattle.pass.proofs.block.lane_of.Goals as goal
 
-pub returns-then-block-i : goal.returns-then-block-i
-returns-then-block-i c = seek_hit _ c.loop-i.invariant (omega arith) (eq-eqb _ _ c.if-block-i.true)
-
-pub loop-i-preserved : goal.loop-i-preserved
-loop-i-preserved c = seek_miss _ c.loop-i.invariant (omega arith) (ne_eqb _ _ c.if-block-i.false)
-
 pub returns : goal.returns
-returns c = seek_end _ c.loop-i.invariant (omega arith)
+returns c =
+    let a = c.args in
+    lowest_found (is_at a.block a.word) a.filled _
+    (first_from_Range _ _ _ c.find.result (λ x. is_at a.block a.word x ≡ true) (λ x. is_at a.block a.word x ≡ false) c.find.ensures.ran (λ x q k. search (rules)) (λ x q k. search (rules)))

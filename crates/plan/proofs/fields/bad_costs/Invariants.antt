@@ -10,6 +10,3 @@ abbrev pub invariant-loop-k : goal.invariant-loop-k
 invariant-loop-k l =
     (1 ≤ l.k) × (l.k ≤ 17) × (any_of (bad_cost l.tasks l.row) (from 1 16) ≡ any_ahead (bad_cost l.tasks l.row) l.k 17)
     × (l.before ≤ 1000000) × (l.k ≡ 1 → l.before ≡ 1000000) × (1 < l.k → l.before ≡ cost_with l.tasks l.row (l.k - 1))
-
-abbrev pub decreases-loop-k : goal.decreases-loop-k
-decreases-loop-k l = 17 - l.k

@@ -1,10 +1,7 @@
 -- `table_words::search::next_stray` meets its contract. The invariant: the frame sought is sought from `f` on.
-use Rattle.std.proofs.Common.{◌≡◌, ◌+◌, ◌-◌, length, sym, refl, ◌∙◌, arith}
+use Rattle.std.proofs.Common.{◌≡◌, ◌+◌, ◌-◌, length, sym, ◌∙◌, arith}
 use Rattle.lists.proofs.RangeLoops.{sought_hit, sought_miss, sought_end}
 use Rattle.table_words.proofs.search.next_stray.Goals as goal
-
-pub loop-f-init : goal.loop-f-init
-loop-f-init c = (omega arith, omega arith, refl)
 
 pub returns-then-is_among : goal.returns-then-is_among
 returns-then-is_among c = sym (c.loop-f.invariant.2 ∙ sought_hit _ _ _ (omega arith) (sym c.is_among.ensures ∙ c.if-is_among.true))

@@ -1,5 +1,0 @@
--- `vectors_colours::main` is safe and ends: each turn answers one case, and the measure is how many are left.
-use Rattle.vectors_colours.proofs.main.Given as goal
-
-abbrev pub decreases-loop-left : goal.decreases-loop-left
-decreases-loop-left l = l.left
