@@ -55,9 +55,9 @@ impl RowTimes {
         None
     }
 
-    // Kept: two loops, since that of the tasks carries on where the part of the row before starts.
     // The same of the tasks, whose times and rounds stand after the `first` that are known. Rows stand in
     // ascending VCPU, so that the part of a row is looked for from that of the row before.
+    // Kept: two loops, since this one carries on where the part of the row before starts.
     pub(crate) fn task_times(
         &mut self,
         reload: u32,

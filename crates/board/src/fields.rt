@@ -5,6 +5,7 @@ ghost use Rattle.board.specs.Tests.{grant, active_set, quota, empty_or_outside};
 
 use crate::Board;
 
+// Kept: 0 and no Option past the eighth, as `grant`, `active_set` and `quota` of the definitions have it.
 fn field(fields: &[u32; 8], domain: u32) -> u32
     ensures { result ≡ get_or fields.now domain 0 }
 {

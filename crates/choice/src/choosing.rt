@@ -21,7 +21,7 @@ fn as_count(colours: usize) -> usize
 }
 
 // The lowest free frame of a colour where it is in a set, else the number of frames.
-// Kept: a number and no Option: `keys_of` holds it against the number of frames, and `moves` fills the same array.
+// Kept: a number and no Option: sixteen frames are one array of words, and `key_of` compares them with the number.
 fn free_of(lanes: [u16; 16], colour: Colour, set: u32, frames: usize) -> usize
     ensures { result ≡ (if has set colour.number then free_by colour.count frames lanes colour.number else frames) }
 {
@@ -56,7 +56,7 @@ fn key_of(held: [u16; 16], free: usize, colour: Colour, set: u32, frames: usize)
 }
 
 // The keys of the colours, by the counts of the lanes and the lowest free frame of each colour.
-// Kept: colours, set and frames apart; a struct of the three would be made by each caller for this one call.
+// Kept: colours, set and frames apart, as `KeysBy`, `FreesBy` and `ByLeastKey` of the definitions take them.
 pub fn keys_of(
     held: [u16; 16],
     frees: &[usize; 16],

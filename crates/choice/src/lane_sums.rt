@@ -48,6 +48,8 @@ impl Colour {
     }
 }
 
+// Kept: the side as a value, as `side_of` of the definition takes it.
+
 // Whether the colour of a lane is on a side of a set, in it or not.
 fn on_side(colours: usize, set: u32, lane: usize, inside: bool) -> bool
     ensures { result ≡ side_of inside (masked_in colours set lane) }

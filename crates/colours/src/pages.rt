@@ -57,7 +57,7 @@ pub fn bleach(colours: u32, set: u32, page: u32) -> Result<u32, Refusal>
 }
 
 // A page number without those of its colour bits, the lowest `bits`, that lie above the lowest
-// `tally`. Bits that lie above come down; where there is nothing to drop it is the page itself.
+// `kept`. Bits that lie above come down; where there is nothing to drop it is the page itself.
 pub fn drop_colour_bits(bits: u32, kept: u32, page: u32) -> u32
     ensures { result ≡ drop_bits bits kept page }
 {

@@ -1,5 +1,6 @@
 // The calls on the frame table for callers in C: document 01, "Board and frame table", and 02, Nos. 6 and 10. The
-// board is lent as its 27 words, and recolour, take_back and set_quota alone change it; set_quota is lent the record itself.
+// board is lent as its 27 words, and recolour, take_back and set_quota alone change it; set_quota is lent the
+// record itself.
 ghost use Rattle.std.specs.Prelude.{◌≡◌};
 ghost use Rattle.lists.specs.Naming.{With};
 ghost use Rattle.calls.specs.Calls.{Outcome, look as look_call, fault as fault_call, release as release_call, colours as colours_call, recolour as recolour_call, set_quota, listed};

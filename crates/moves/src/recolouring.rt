@@ -90,8 +90,8 @@ fn recolour_table(
     Ok(count)
 }
 
-// Kept: one match here and one in `take_back`; a function for both would take the four values that it puts together.
 // The same, and the set becomes active. A refusal leaves the board as it was.
+// Kept: one match here and one in `take_back`; a function for both would take the four values that it puts together.
 pub fn recolour(
     board: Board,
     table: &mut [u16],

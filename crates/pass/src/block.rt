@@ -34,7 +34,7 @@ pub(crate) fn take_in(
     stop
 }
 
-// Kept: the block by value, and how many of it are filled: lent, a fault took 6,000 instructions, not 5,565.
+// Kept: the block by value, and how many of it are filled: lent, a pass took 6,000 instructions, not 5,284.
 // The lowest lane of a block with a word.
 pub(crate) fn lane_of(block: [u16; 16], filled: usize, word: u16) -> Option<usize>
     requires { filled ≤ 16 }

@@ -78,6 +78,7 @@ impl Refusal {
     }
 
     // The domain or row at fault, 0 where it names none.
+    // Kept: 0 and no Option, as document 01 has the row of such a refusal, and a caller in C is told it.
     pub fn row(self) -> u32
         ensures { result ≡ row_of self }
     {

@@ -1,9 +1,10 @@
 // The words of the input, and the plan that they hold: document 01, "Examples from the recorder".
-ghost use Rattle.std.specs.Prelude.{◌≡◌, ◌<◌, ◌≤◌, length};
+ghost use Rattle.std.specs.Prelude.{◌≡◌, ◌<◌, ◌≤◌, ◌||◌, ltb, length};
 ghost use Rattle.admission.specs.Admission.{leaving, judged};
 ghost use Rattle.refusal.specs.Numbers.{reply_of};
 ghost use Rattle.report.specs.Input.{word_in, words_in, domain_count, vcpu_count, task_count, board_in, reload_in, vcpus_in, tasks_in};
 
+use crate::MOST_DOMAINS;
 use admission::admit_plan;
 use board::{Board, first_quotas};
 use refusal::Refusal;
@@ -27,6 +28,15 @@ fn word_in(input: &[u8], k: usize) -> u32
 {
     let byte = |i: usize| input.get(4 * k + i).copied().unwrap_or(0);
     u32::from_le_bytes([byte(0), byte(1), byte(2), byte(3)])
+}
+
+impl Rows {
+    // Whether a count exceeds its limit.
+    pub(crate) fn over_limit(self) -> bool
+        ensures { result ≡ ltb 8 self.domains || ltb 16 self.vcpus || ltb 32 self.tasks }
+    {
+        MOST_DOMAINS < self.domains || MOST_VCPUS < self.vcpus || MOST_TASKS < self.tasks
+    }
 }
 
 pub(crate) fn count_rows(input: &[u8]) -> Rows

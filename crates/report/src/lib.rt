@@ -5,7 +5,7 @@
 
 mod input;
 
-ghost use Rattle.std.specs.Prelude.{◌≡◌, ℕ, ◌≤◌, true, false, ◌||◌, ltb, List, length, take, MatchOption};
+ghost use Rattle.std.specs.Prelude.{◌≡◌, ℕ, ◌≤◌, true, false, List, length, take, MatchOption};
 ghost use Rattle.refusal.specs.Numbers.{reply_of};
 ghost use Rattle.report.specs.Report.{extent_reply, not_a_plan, verdict, words_taken, text_of};
 ghost use Rattle.text.specs.Text.{over};
@@ -13,7 +13,7 @@ ghost use Rattle.text.specs.Text.{over};
 use crate::input::{count_rows, judge};
 use refusal::Refusal;
 use rows::{TASK_WORDS, VCPU_WORDS};
-use text::{MOST_ROWS, MOST_TASKS, MOST_VCPUS, TEXT_BYTES, write_admitted, write_refused};
+use text::{MOST_ROWS, TEXT_BYTES, write_admitted, write_refused};
 
 // The longest plan has 718 words. One byte more tells an input that is too long, whatever follows it.
 pub const INPUT_BYTES: usize = 2873;
@@ -29,12 +29,6 @@ pub struct Reported {
     pub length: u32,
 }
 
-fn over_limit(domains: usize, vcpus: usize, tasks: usize) -> bool
-    ensures { result ≡ ltb 8 domains || ltb 16 vcpus || ltb 32 tasks }
-{
-    MOST_DOMAINS < domains || MOST_VCPUS < vcpus || MOST_TASKS < tasks
-}
-
 // How many words the plan in front of the input takes. The input may go on after it.
 pub fn plan_extent(input: &[u8]) -> Result<u32, Refusal>
     ensures { reply_of result ≡ extent_reply input.now }
@@ -43,7 +37,7 @@ pub fn plan_extent(input: &[u8]) -> Result<u32, Refusal>
     let domains = rows.domains;
     let vcpus = rows.vcpus;
     let tasks = rows.tasks;
-    if over_limit(domains, vcpus, tasks) {
+    if rows.over_limit() {
         return Err(Refusal::NotAPlan);
     }
     let words = 6 + domains + VCPU_WORDS * vcpus + TASK_WORDS * tasks;

@@ -5,6 +5,7 @@ ghost use Rattle.rows.specs.RowWords.{vcpu_word, task_word, cost as cost_of};
 
 use crate::{TASK_SET, TASK_WORDS, VCPU_WORDS};
 
+// Kept: 0 and no Option past the end, as `vcpu_word` and `task_word` of the definitions have it.
 fn word_at(words: &[u32], at: usize) -> u32
     ensures { result ≡ get_or words.now at 0 }
 {

@@ -6,7 +6,7 @@ ghost use Rattle.table_words.specs.Sets.{masked_in, limit_of, LimitsBy};
 use colours::has_colour;
 
 // The number of colours is a power of two, so that a mask gives the remainder.
-// Kept: colours and set apart; the board holds one, the call the other, and a struct would only be taken apart here.
+// Kept: colours and set apart, as `masked_in` and `LimitsBy` of the definitions take them.
 #[tactic(auto, unfolding(crate::specs::Sets::masked_in), using(colours::proofs::Ranges::own_colour))]
 pub fn in_set(colours: usize, set: u32, frame: usize) -> bool
     ensures { result ≡ masked_in colours set frame }

@@ -1,5 +1,5 @@
-// The triples of a list as 31 judges them: document 02, No. 10. Each is tested by itself, with marks for the frames that
-// the list names; the list is only read.
+// The triples of a list as 31 judges them: document 02, No. 10. Each is tested by itself, with marks for the frames
+// that the list names; the list is only read.
 ghost use Rattle.std.specs.Prelude.{◌≡◌, not, ◌*◌, ◌+◌, ◌≤◌, ◌<◌, length, set as store};
 ghost use Rattle.limits.specs.Limits.{most_frames};
 ghost use Rattle.refusal.specs.Numbers.{reply_of};

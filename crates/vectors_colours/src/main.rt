@@ -2,9 +2,9 @@
 // its numbers; the first five hold the count of cases. A line is written for each case.
 #![tactic(auto)]
 
-use refusal::{Refusal, RowNames};
+use refusal::RowNames;
 use std::io::Read;
-use vectors_input::{next_word, number, refused, text};
+use vectors_input::{next_word, number, text, told};
 
 fn long_word(low: u32, high: u32) -> u64 {
     low as u64 + 4294967296 * (high as u64)
@@ -15,13 +15,6 @@ fn row_names(out: &impl Print, number: u32) {
         RowNames::Domain => text(out, "domain\n"),
         RowNames::PlanRow => text(out, "plan row\n"),
         RowNames::Nothing => text(out, "nothing\n"),
-    }
-}
-
-fn told(out: &impl Print, answer: Result<u32, Refusal>) {
-    match answer {
-        Ok(value) => number(out, value as u64),
-        Err(refusal) => refused(out, refusal),
     }
 }
 
@@ -57,11 +50,12 @@ fn answer(input: &mut impl Read, out: &impl Print) {
         Operation::CacheColours => {
             told(
                 out,
+                "",
                 colours::cache_colours(long_word(a, b), long_word(c, d)),
             )
         }
-        Operation::Layout => told(out, colours::layout(a, b, c)),
-        Operation::Bleach => told(out, colours::bleach(a, b, c)),
+        Operation::Layout => told(out, "", colours::layout(a, b, c)),
+        Operation::Bleach => told(out, "", colours::bleach(a, b, c)),
         Operation::DropColourBits => number(out, colours::drop_colour_bits(a, b, c) as u64),
         Operation::RowNames => row_names(out, a),
     }

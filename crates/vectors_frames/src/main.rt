@@ -74,7 +74,7 @@ fn set_quota(out: &impl Print, board: Board, table: &[u16], domain: u32, quota: 
     let asked = frames::ask_quota(board, table, domain, quota);
     let quotas = asked.quotas;
     let after = Board { quotas, ..board };
-    output::told(out, "quota ", asked.answer);
+    vectors_input::told(out, "quota ", asked.answer);
     output::table(out, table);
     output::board(out, after);
     vectors_input::text(out, "\n");
@@ -94,12 +94,13 @@ fn answer_alone(
         Call::SetQuota => return set_quota(out, board, table, domain, argument),
         Call::Look => output::looked(out, frames::look(board, table, domain, argument)),
         Call::Fault => output::faulted(out, frames::fault(board, table, domain, argument)),
-        Call::Release => output::told(
+        Call::Release => vectors_input::told(
             out,
             "freed ",
             frames::release(board, table, domain, argument),
         ),
-        _ => output::active(out, frames::colours(board, table, domain)),
+        Call::Colours => output::active(out, frames::colours(board, table, domain)),
+        Call::Recolour | Call::TakeBack => {}
     }
     output::table(out, table);
     board

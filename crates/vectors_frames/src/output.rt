@@ -5,7 +5,7 @@ use board::Board;
 use frames::{ActiveColours, Faulted};
 use moves::Recoloured;
 use refusal::Refusal;
-use vectors_input::{hash_words, line, part, refused, text};
+use vectors_input::{hash_words, line, part, refused, text, told};
 
 pub fn looked(out: &impl Print, answer: Result<Option<u32>, Refusal>) {
     match answer {
@@ -29,14 +29,6 @@ pub fn active(out: &impl Print, answer: Result<ActiveColours, Refusal>) {
             part(out, "active ", colours.set as u64);
             line(out, " quota ", colours.quota);
         }
-        Err(refusal) => refused(out, refusal),
-    }
-}
-
-// An answer that is one number, after its name.
-pub fn told(out: &impl Print, name: &str, answer: Result<u32, Refusal>) {
-    match answer {
-        Ok(number) => line(out, name, number),
         Err(refusal) => refused(out, refusal),
     }
 }

@@ -7,7 +7,7 @@ mod lines;
 mod words;
 
 pub use hash::hash_words;
-pub use lines::{line, number, part, refused, text};
+pub use lines::{line, number, part, refused, text, told};
 pub use words::{
     marked_list, marked_table, next_board, next_bytes, next_list, next_table, next_whole_board,
     next_word, next_words,

@@ -22,3 +22,11 @@ pub fn part(out: &impl Print, name: &str, value: u64) {
 pub fn refused(out: &impl Print, refusal: Refusal) {
     let _ = println!(out; "{refusal}");
 }
+
+// An answer that is one number, after its name.
+pub fn told(out: &impl Print, name: &str, answer: Result<u32, Refusal>) {
+    match answer {
+        Ok(number) => line(out, name, number),
+        Err(refusal) => refused(out, refusal),
+    }
+}

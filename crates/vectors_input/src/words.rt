@@ -43,28 +43,32 @@ pub fn next_bytes<'a>(input: &mut impl Read, room: &'a mut [u8]) -> &'a mut [u8]
     bytes
 }
 
-// A list of the length that comes next, whose words tell whether one is changed: word i is
-// (1,000,003 i + 7) modulo 2^32.
-pub fn marked_list<'a>(input: &mut impl Read, room: &'a mut [u32]) -> &'a mut [u32] {
+// A list of the length that comes next, whose words tell whether one is changed: each follows from the one before.
+fn marked<'a, W: Copy, F: Fn(W) -> W>(
+    input: &mut impl Read,
+    room: &'a mut [W],
+    first: W,
+    next: F,
+) -> &'a mut [W]
+    requires { F.IsAlwaysCallable next }
+{
     let list = next_part(input, room);
-    let mut mark: u32 = 7;
+    let mut mark = first;
     for word in list.iter_mut() {
         *word = mark;
-        mark = mark.wrapping_add(1000003);
+        mark = next(mark);
     }
     list
 }
 
-// Kept: two functions, since std has no trait for a sum that wraps in 32 and in 16 bits.
-// The same for a table: word i is (7 i + 3) modulo 2^16.
+// Word i is (1,000,003 i + 7) modulo 2^32.
+pub fn marked_list<'a>(input: &mut impl Read, room: &'a mut [u32]) -> &'a mut [u32] {
+    marked(input, room, 7, |mark| mark.wrapping_add(1000003))
+}
+
+// Word i is (7 i + 3) modulo 2^16.
 pub fn marked_table<'a>(input: &mut impl Read, room: &'a mut [u16]) -> &'a mut [u16] {
-    let table = next_part(input, room);
-    let mut mark: u16 = 3;
-    for word in table.iter_mut() {
-        *word = mark;
-        mark = mark.wrapping_add(7);
-    }
-    table
+    marked(input, room, 3, |mark| mark.wrapping_add(7))
 }
 
 fn next_eight(input: &mut impl Read) -> [u32; 8] {
