@@ -63,10 +63,10 @@ extern "C" {
  * The bytes of stack that a call takes at most, with the arguments that its caller stores and with memcpy and
  * memset. Each is the most that was measured on the largest boards and plans, rounded up to a multiple of 256.
  */
-#define JUZVANEC_STACK_RECOLOUR 9216u  /* juzvanec_recolour */
-#define JUZVANEC_STACK_TAKE_BACK 4864u /* juzvanec_take_back */
-#define JUZVANEC_STACK_ADMIT 4864u     /* juzvanec_admit */
-#define JUZVANEC_STACK_OTHERS 1536u    /* any other function */
+#define JUZVANEC_STACK_RECOLOUR 8960u  /* juzvanec_recolour */
+#define JUZVANEC_STACK_TAKE_BACK 4608u /* juzvanec_take_back */
+#define JUZVANEC_STACK_ADMIT 4608u     /* juzvanec_admit */
+#define JUZVANEC_STACK_OTHERS 1280u    /* any other function */
 
 /*
  * A board: 27 words of 32 bits. A grant or an active set has bit c for colour c. A domain that holds as many

@@ -1,5 +1,5 @@
 -- The loop that keeps the VCPUs of a core: one of the core adds a row, one of another core adds nothing to the need.
-use Prim.Native.Nat.{ℕ, ◌+◌, ◌*◌, ◌<◌}
+use Prim.Native.Nat.{ℕ, ◌+◌, ◌*◌, ◌<◌, ◌≤◌}
 use native.Mathlib.Nat.{lt_irrefl, le_refl, le_trans}
 use native.Mathlib.Omega.{arith}
 use mathlib.Core.List.{List}
@@ -13,7 +13,11 @@ use Rattle.times.specs.Times.{arrivals, need, vcpu_charge, vcpu_need}
 use Rattle.times.proofs.Needs.{need_next, need_same}
 use Rattle.times.proofs.Bounds.{same_core, other_core}
 use Rattle.admission.specs.declared.need.EarlierVcpu.{EarlierVcpu}
-use Rattle.admission.specs.EarlierRows.{row_at, OnCore}
+use Rattle.admission.specs.EarlierRows.{InRange, row_at, RowInRange, OnCore}
+
+-- a budget is within what an arrival may charge
+pub in_range : {rows : List EarlierVcpu} {k : ℕ} → RowInRange rows k → InRange (row_at rows k).period (row_at rows k).budget
+in_range r = record { period_low = r.period_low; period_high = r.period_high; charge_high = le_trans r.budget_high (omega arith) }
 
 module _ (vcpus : List ℕ) (i : ℕ) where
   -- the need over the first n rows
@@ -43,15 +47,17 @@ module _ (vcpus : List ℕ) (i : ℕ) where
           few = omega (arith, c.few);
           within = λ k l.
               below_or_not k n
-              (λ h. rw (earlier k h) (c.within k h))
+              (λ h.
+              let r = c.within k h in
+              let kept = earlier k h in
+              record { period_low = rw kept r.period_low; period_high = rw kept r.period_high; budget_high = rw kept r.budget_high })
               (λ h.
               let last : k ≡ n = omega arith in
-              rw (last, here)
-              (record {
-                period_low = rw period (le_trans valid.budget_low valid.budget_high);
-                period_high = rw period valid.period_high;
-                charge_high = rw charge (le_trans valid.budget_high (le_trans valid.period_high (omega arith)));
-              }));
+              record {
+                period_low = rw (last, here, period) (le_trans valid.budget_low valid.budget_high);
+                period_high = rw (last, here, period) valid.period_high;
+                budget_high = rw (last, here, charge) (le_trans valid.budget_high valid.period_high);
+              });
           same = λ t.
               need_next (budget vcpus i) (λ (k : ℕ). (row_at (set rows n row) k).period) (λ (k : ℕ). (row_at (set rows n row) k).budget) n t
               ∙ ap₂ (λ (x y : ℕ). x + y)

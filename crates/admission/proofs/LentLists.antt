@@ -63,4 +63,4 @@ module _ (reload : ℕ) (vcpus tasks : List ℕ) where
       → Timed (task_time reload vcpus tasks) (task_rounds reload vcpus tasks) (task_rows tasks) (vcpu_rows vcpus) known None found
       → (take (vcpu_rows vcpus + task_rows tasks) found.times ≡ all_times reload vcpus tasks) × (take (vcpu_rows vcpus + task_rows tasks) found.rounds ≡ all_rounds reload vcpus tasks)
   unfolding all_times all_rounds vcpu_times task_times
-  all_found v t = (both_kept (v.times refl) (t.times refl), both_kept (v.counts refl) (t.counts refl))
+  all_found v t = (both_kept v.times t.times, both_kept v.counts t.counts)

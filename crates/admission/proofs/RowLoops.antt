@@ -39,12 +39,12 @@ module _ (time : ℕ → Time) (taken : ℕ → ℕ) (n first : ℕ) (known : Ro
     pub times : Recorded (λ (k : ℕ). microseconds (time k)) first known.times i kept.times
     pub counts : Recorded taken first known.rounds i kept.rounds
 
-  pub timing_start : Roomy known → Timing 0 known
-  timing_start room =
+  pub timing_start : {kept : RowTimes} → take first kept.times ≡ take first known.times → take first kept.rounds ≡ take first known.rounds → Roomy kept → Timing 0 kept
+  timing_start {kept} p q room =
       record {
         ahead = seek_start late 0 n (omega arith);
-        times = kept_start (λ (k : ℕ). microseconds (time k)) first known.times known.times refl room.times;
-        counts = kept_start taken first known.rounds known.rounds refl room.rounds;
+        times = kept_start (λ (k : ℕ). microseconds (time k)) first known.times kept.times p room.times;
+        counts = kept_start taken first known.rounds kept.rounds q room.rounds;
       }
 
   pub timing_room : {i : ℕ} {kept : RowTimes} → Timing i kept → Roomy kept
@@ -63,11 +63,11 @@ module _ (time : ℕ → Time) (taken : ℕ → ℕ) (n first : ℕ) (known : Ro
   unfolding lowest_below
   timing_late {i} t l e =
       let here : i ≡ lowest late n = seek_hit late t.ahead l (ap is_late e) in
-      record { late_lem = rw (← here, lt-ltb i n l) refl; times = λ q. cc q; counts = λ q. cc q }
+      record { late_lem = rw (← here, lt-ltb i n l) refl; times = t.times; counts = t.counts }
 
   pub timing_end : {i : ℕ} {kept : RowTimes} → Timing i kept → n ≤ i → Timed time taken n first known None kept
   unfolding lowest_below
   timing_end {i} t l =
       let end : i ≡ lowest late n = seek_end late t.ahead l in
       let all : i ≡ n = omega (arith, t.ahead.within) in
-      record { late_lem = rw (← end, le-ltb i n l) refl; times = λ q. rw all at t.times; counts = λ q. rw all at t.counts }
+      record { late_lem = rw (← end, le-ltb i n l) refl; times = rw all at t.times; counts = rw all at t.counts }

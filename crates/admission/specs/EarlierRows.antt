@@ -14,10 +14,16 @@ pub record InRange (period charge : ℕ) : Type 0 where
 abbrev pub row_at : List EarlierVcpu → ℕ → EarlierVcpu
 row_at rows k = get_or rows k (record { period = 0; budget = 0 })
 
+-- the k-th is within its ranges
+pub record RowInRange (rows : List EarlierVcpu) (k : ℕ) : Type 0 where
+  pub period_low : 1 ≤ (row_at rows k).period
+  pub period_high : (row_at rows k).period ≤ 1000000
+  pub budget_high : (row_at rows k).budget ≤ 1000000
+
 -- n rows stand for the VCPUs below row j: they give the need of VCPU i over these
 pub record OnCore (vcpus : List ℕ) (i j n : ℕ) (rows : List EarlierVcpu) : Type 0 where
   pub few : n ≤ j
-  pub within : (k : ℕ) → k < n → InRange (row_at rows k).period (row_at rows k).budget
+  pub within : (k : ℕ) → k < n → RowInRange rows k
   pub same : (t : ℕ)
       → need (budget vcpus i) (λ (k : ℕ). (row_at rows k).period) (λ (k : ℕ). (row_at rows k).budget) n t
       ≡ need (budget vcpus i) (vcpu_period vcpus) (vcpu_charge vcpus i) j t

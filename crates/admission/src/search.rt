@@ -85,6 +85,7 @@ pub(crate) fn time_in_part(period: u32, budget: u32, reload: u32, part: &[u32], 
 }
 
 // The time of a VCPU: its supply in t is t.
+#[tactic(auto, using(crate::proofs::CoreVcpus::in_range))]
 pub(crate) fn vcpu_time(vcpus: &[u32], i: u32) -> Search
     requires { Vcpus vcpus.now × (i < vcpu_rows vcpus.now) }
     ensures found_value { paper_found result.found ≡ vcpu_time_of vcpus.now i }

@@ -51,10 +51,10 @@ module _ (tasks : List ℕ) where
   not_itself : (j : ℕ) → sharing j j ≡ false
   not_itself j = rw (eq-eqb (vcpu_of tasks j) (vcpu_of tasks j) refl) refl
 
-  -- where no lower row shares a colour, that with a later one decides
-  decides : (j : ℕ) → j < task_rows tasks → ((i : ℕ) → i < j → shares_colour tasks i ≡ false) → shares_colour tasks j ≡ shares_with_later tasks j
-  unfolding any_ahead
-  decides j h none =
+  -- where no lower row shares a colour, the rows after it are left
+  pub shares_later : (j : ℕ) → j < task_rows tasks → ((i : ℕ) → i < j → shares_colour tasks i ≡ false)
+      → shares_colour tasks j ≡ any_ahead (sharing j) (j + 1) (task_rows tasks)
+  shares_later j h none =
       any_start (sharing j) (task_rows tasks) ∙ any_past (sharing j) (task_rows tasks) (j + 1) (omega arith) below
     where
       below : (k : ℕ) → k < j + 1 → sharing j k ≡ false
@@ -62,6 +62,10 @@ module _ (tasks : List ℕ) where
           below_or_not k j
           (λ m. sharing_both j k ∙ any_none (sharing k) (task_rows tasks) j (none k m) h)
           (λ m. let same : k ≡ j = omega arith in ap (sharing j) same ∙ not_itself j)
+
+  decides : (j : ℕ) → j < task_rows tasks → ((i : ℕ) → i < j → shares_colour tasks i ≡ false) → shares_colour tasks j ≡ shares_with_later tasks j
+  unfolding any_ahead
+  decides j h none = shares_later j h none
 
   none_shares : (m : ℕ) → m ≤ task_rows tasks → ((i : ℕ) → i < m → shares_with_later tasks i ≡ false) → (i : ℕ) → i < m → shares_colour tasks i ≡ false
   none_shares zero h none i l = absurd (lt_irrefl i (omega arith))

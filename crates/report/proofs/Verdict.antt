@@ -74,10 +74,20 @@ module _ (input : List ℕ) where
       cases (not_a_plan input) (λ y. y)
       (λ y. let whole = extent_whole (plain y).0 (plain y).1 in let clash : Answers (plan_words input) ≡ Refuses n r = sym whole ∙ e in cc)
 
-  -- no words are taken of what is no plan
-  pub none_taken : not_a_plan input ≡ true → 0 ≡ words_taken input
+  -- no words are taken of what is no plan, and of a plan, which has at least 6, some
+  pub no_words : not_a_plan input ≡ true → 0 ≡ words_taken input
   unfolding words_taken
-  none_taken e = rw e refl
+  no_words e = rw e refl
+
+  pub none_taken : words_taken input ≡ 0 → not_a_plan input ≡ true
+  unfolding words_taken plan_words
+  none_taken e = cases (not_a_plan input) (λ y. y) (λ y. absurd (six (rw y at e)))
+    where
+      six : 6 + domain_count input + 4 * vcpu_count input + 20 * task_count input ≡ 0 → ⊥
+      six z = omega (arith, z)
+
+  pub some_taken : (n : ℕ) → n ≡ words_taken input → (n ≡ 0 → ⊥) → not_a_plan input ≡ false
+  some_taken n e h = cases (not_a_plan input) (λ y. absurd (h (e ∙ sym (no_words y)))) (λ y. y)
 
   pub counts_few : not_a_plan input ≡ false → (domain_count input ≤ 8) × (vcpu_count input ≤ 16) × (task_count input ≤ 32)
   unfolding not_a_plan over_limit

@@ -5,7 +5,7 @@ use board::Board;
 use frames::{ActiveColours, Faulted};
 use moves::Recoloured;
 use refusal::Refusal;
-use vectors_input::{hash_words, line, part, refused, text, told};
+use vectors_input::{hash_table, hash_words, line, part, refused, text, told};
 
 pub fn looked(out: &impl Print, answer: Result<Option<u32>, Refusal>) {
     match answer {
@@ -53,9 +53,9 @@ pub fn recoloured(out: &impl Print, done: Recoloured, words: &[u16]) {
 
 // The triples of a recolouring as they stand in its move list, and the rest of the list.
 pub fn moves(out: &impl Print, list: &[u16], count: u32) {
-    let (triples, rest) = list.split_at(list.len().min(3 * count as usize));
-    part(out, " moves ", hash_words(0, triples) as u64);
-    line(out, " rest ", hash_words(0, rest));
+    let end = 3 * count as usize;
+    part(out, " moves ", hash_table(list, 0, end) as u64);
+    line(out, " rest ", hash_table(list, end, list.len()));
 }
 
 // The list of a taking back.

@@ -12,3 +12,9 @@ pub fn hash_words<W: Copy + Into<u32>>(before: u32, list: &[W]) -> u32 {
     }
     h
 }
+
+// The hash of a table's words from one place up to another, or to its end.
+pub fn hash_table(table: &[u16], from: usize, to: usize) -> u32 {
+    let end = to.min(table.len());
+    hash_words(0, &table[from.min(end)..end])
+}

@@ -6,7 +6,7 @@ mod hash;
 mod lines;
 mod words;
 
-pub use hash::hash_words;
+pub use hash::{hash_table, hash_words};
 pub use lines::{line, number, part, refused, text, told};
 pub use words::{
     marked_list, marked_table, next_board, next_bytes, next_list, next_table, next_whole_board,

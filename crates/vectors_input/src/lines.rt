@@ -1,8 +1,10 @@
 // What lines of output are made of: a text, a number, and a refusal. A write that fails leaves its part out.
 use refusal::Refusal;
+use std::convert::AsSlice;
 
-pub fn text(out: &impl Print, text: &str) {
-    let _ = print!(out; "{text}");
+// A text, or any bytes.
+pub fn text(out: &impl Print, text: impl AsSlice<u8> + Drop) {
+    let _ = out.write_all(text.as_slice());
 }
 
 // A number that ends its line.
@@ -10,17 +12,21 @@ pub fn number(out: &impl Print, value: u64) {
     let _ = println!(out; "{value}");
 }
 
-pub fn line(out: &impl Print, name: &str, value: u32) {
-    let _ = println!(out; "{name}{value}");
+pub fn line(out: &impl Print, name: impl AsSlice<u8> + Drop, value: u32) {
+    text(out, name);
+    number(out, value as u64);
 }
 
 // The first part of a line, or a middle one.
-pub fn part(out: &impl Print, name: &str, value: u64) {
-    let _ = print!(out; "{name}{value}");
+pub fn part(out: &impl Print, name: impl AsSlice<u8> + Drop, value: u64) {
+    text(out, name);
+    let _ = print!(out; "{value}");
 }
 
+// Kept: in parts, and not as `{refusal}`, whose one write leaves out the whole line where it fails.
 pub fn refused(out: &impl Print, refusal: Refusal) {
-    let _ = println!(out; "{refusal}");
+    part(out, "refused ", refusal.number() as u64);
+    line(out, " ", refusal.row());
 }
 
 // An answer that is one number, after its name.

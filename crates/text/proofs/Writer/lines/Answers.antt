@@ -21,7 +21,7 @@ loop-row-preserved c =
     let row = c.loop-row.row in
     let w = c.loop-row.invariant in (
       rw (lines_more name times 0 row (omega arith), zero-add row) (wrote_append w.0 c.line.ensures),
-      omega (arith, c.requires, w.1, c.line.ensures.end_after, line_size name row (get_or times row 0), decimal_length 2 row (omega arith) (omega (arith, c.requires)) (omega (arith, c.requires)), decimal_short (get_or times row 0) (omega (arith, c.type_inv.times row))),
+      omega (arith, c.requires, w.1, c.line.ensures.end_after, line_size name row (get_or times row 0), decimal_length 1 row (omega (arith, c.requires)), decimal_short (get_or times row 0) (omega (arith, c.type_inv.times row))),
     )
 
 pub returns-clause-all : goal.returns-clause-all

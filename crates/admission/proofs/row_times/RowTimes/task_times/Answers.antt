@@ -23,7 +23,7 @@ starts c =
     ∙ start_from t (vcpu_of t h.j) h.start (omega arith) (λ m l. h.invariant.2 m l h.j (le_refl h.j) (omega arith))
 
 pub loop-j-init : goal.loop-j-init
-loop-j-init c = (timing_start _ _ _ _ _ c.requires.3, omega arith, λ m l. absurd (not-suc-le-zero l))
+loop-j-init c = (timing_start _ _ _ _ _ refl refl c.requires.3, omega arith, λ m l. absurd (not-suc-le-zero l))
 
 pub task_time-search-requires : goal.task_time-search-requires
 task_time-search-requires c = (c.requires.0, omega (arith, c.requires.2), starts (goal.at.task_time-search-requires c).After-next_own-start)
