@@ -14,9 +14,9 @@ pub extern "C" fn juzvanec_part(tasks: &[u32], vcpu: u32, start: &mut usize, len
     ensures start_after { start.new ≡ 20 * part_start tasks.now vcpu }
     ensures length_after { length.new ≡ length_of (part_of tasks.now vcpu) }
 {
-    let part = rows::part(tasks, vcpu);
-    *start = rows::TASK_WORDS * rows::part_start(tasks, vcpu);
-    *length = part.len();
+    let first = rows::part_start(tasks, vcpu);
+    *start = rows::TASK_WORDS * first;
+    *length = rows::part_from(tasks, first, vcpu).len();
 }
 
 // The verdict on a plan. Admitted, `times` holds the times of the VCPUs and then of the tasks, and `rounds`
